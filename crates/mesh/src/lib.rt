@@ -1,7 +1,8 @@
-//! A heap that is compacted by meshing while mutators use it. This crate is the public API of the library.
+//! A heap that is compacted by meshing while mutators use it.
 //!
-//! Two groups of one size class with no common occupied slot are put on one physical span, and the virtual pages of
-//! both are mapped there. Addresses don't change, and no pointer needs updating:
+//! This crate is the public API of the library. Two groups of one size class with no common occupied slot are put on
+//! one physical span, and the virtual pages of both groups are mapped there. Addresses don't change, and no pointer
+//! needs updating:
 //!
 //! ```text
 //! let mut heap = Heap::open(alloc, 16)?;
@@ -15,8 +16,8 @@
 //! let bytes = heap.read(low, 0, 3)?;          // "low", at the same address as before
 //! ```
 //!
-//! Call `is_full` before each `new`: it returns whether all serial numbers are used up, and `new` requires that one is
-//! left. The programs of `mesh_uses` are complete, proved and run.
+//! Call `is_full` before each `new`: `new` requires that a serial number is left, and `is_full` returns whether all are
+//! used up. The programs of `mesh_uses` are complete, proved and run.
 //!
 //! - A `Heap` makes, reads, writes, copies and frees objects by their `Ref`. A mesher's `begin`, `step` and `cancel`
 //!   mesh two groups one step at a time, and `mesh_whole` meshes them at once. A store to a page that a mesh made

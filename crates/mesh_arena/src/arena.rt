@@ -1,4 +1,4 @@
-//! The arena: its frames, and how many of them are free.
+//! The arena: its frames, and the number of free frames.
 ghost use Rattle.std.specs.Prelude.{◌≡◌, ◌≢◌, ℕ, ◌+◌, ◌<◌, ◌≤◌, length, replicate, IfOk, IfSome, IfNone, IsSome, false, slice_set, slice_range, unwrap_or, []};
 ghost use Rattle.mesh_arena.specs.Pages.{IsTaken, is_taken, byte_at, free_count, lowest_free, content, bytes_of, blank_page, with_run, with_copy, run_of, Takes, Gives, Writes};
 
@@ -7,18 +7,18 @@ use crate::page::Page;
 use std::alloc::{AllocError, Global};
 use std::marker::Model;
 
-/// The greatest number of pages of an arena: 16 MiB. This project's own choice.
+/// The greatest number of pages of an arena: 4,096 pages are 16 MiB. This project's own choice.
 pub const MAX_PAGES: u32 = 4096;
 
-/// Contracts use the number itself.
+/// The contracts write 4,096, so `MAX_PAGES` must be 4,096.
 const _: () = prove!(MAX_PAGES == 4096);
 
 /// An arena of physical pages, each free or taken.
 #[derive(Drop)]
 pub struct Arena {
-    /// A frame for each page, in the order of their numbers.
+    /// The frames of the pages, in the order of the page numbers.
     frames: Frames,
-    /// How many frames are free.
+    /// The number of free frames.
     free: u32,
 }
 
@@ -35,9 +35,9 @@ impl Model for Arena {
 }
 
 impl Arena {
-    /// Makes an arena of `pages` free pages, from 1 to 4,096.
+    /// Creates an arena of `pages` free pages, from 1 to 4,096.
     ///
-    /// It allocates all the memory that the arena will ever use. An error is an allocation failure.
+    /// Allocates all the memory that the arena will ever use. An error is an allocation failure.
     pub fn new(alloc: Global, pages: u32) -> Result<Arena, AllocError>
         requires some { 1 ≤ pages }
         requires few { pages ≤ 4096 }
@@ -54,7 +54,7 @@ impl Arena {
 
     /// Takes the free page with the lowest number, and fills it with zeros.
     ///
-    /// Returns `None` if and only if no page is free. Nothing changes then.
+    /// Returns `None` if and only if no page is free. The arena is then unchanged.
     pub fn take(&mut self) -> Option<Page>
         ensures page { result ≡ lowest_free self.old }
         ensures taken { IfSome result (λ page.
@@ -83,7 +83,7 @@ impl Arena {
         self.free += 1;
     }
 
-    /// Reads bytes of a taken page from an offset on, and fills `out` with them.
+    /// Fills `out` with the bytes of a taken page that begin at offset `off`.
     pub fn read(&self, page: Page, off: u32, out: &mut [u8])
         requires taken { IsTaken self.now page }
         requires fits { off + length out.old ≤ 4096 }
@@ -97,7 +97,7 @@ impl Arena {
         out.copy_from_slice(&bytes[start..start + out.len()]);
     }
 
-    /// Writes bytes into a taken page from an offset on.
+    /// Writes bytes into a taken page, starting at offset `off`.
     pub fn write(&mut self, page: Page, off: u32, bytes: &[u8])
         requires taken { IsTaken self.old page }
         requires fits { off + length bytes.now ≤ 4096 }
@@ -109,7 +109,7 @@ impl Arena {
         self.frames.write(place, off as usize, bytes);
     }
 
-    /// Copies `len` bytes from one taken page to another.
+    /// Copies `len` bytes from one taken page to another taken page.
     pub fn copy(&mut self, from: Page, from_off: u32, to: Page, to_off: u32, len: u32)
         requires from_taken { IsTaken self.old from }
         requires to_taken { IsTaken self.old to }
@@ -130,21 +130,21 @@ impl Arena {
         );
     }
 
-    /// Whether the page with this number is taken. `false` for every number from the arena's size on.
+    /// Whether the page with this number is taken. `false` if the number isn't below the arena's number of pages.
     pub fn is_taken(&self, number: u32) -> bool
         ensures { result ≡ is_taken self.now number }
     {
         self.frames.is_taken(number as usize)
     }
 
-    /// How many pages are taken.
+    /// Returns the number of taken pages.
     pub fn taken_pages(&self) -> u32
         ensures { result + free_count self.now ≡ length self.now }
     {
         self.frames.count() as u32 - self.free
     }
 
-    /// How many pages are free.
+    /// Returns the number of free pages.
     pub fn free_pages(&self) -> u32
         ensures { result ≡ free_count self.now }
     {

@@ -1,4 +1,4 @@
-//! One physical page's memory.
+//! The memory of one physical page.
 ghost use Rattle.std.specs.Prelude.{◌≡◌, ◌+◌, ◌≤◌, length};
 ghost use Rattle.mesh_arena.specs.Pages.{blank_page, with_run};
 
@@ -7,7 +7,7 @@ use std::marker::Model;
 /// The number of bytes of a page, physical or virtual. This project's own choice.
 pub const PAGE_BYTES: usize = 4096;
 
-/// A page's memory. The content of a free page's memory is unspecified.
+/// The memory of a page. While the page is free, its content is unspecified.
 #[derive(Drop)]
 pub(crate) struct Frame {
     bytes: [u8; PAGE_BYTES],
@@ -24,7 +24,7 @@ impl Model for Frame {
 }
 
 impl Frame {
-    /// A frame with zeros in all its bytes.
+    /// Returns a frame of zeros.
     pub(crate) fn blank() -> Frame
         ensures { result ≡ blank_page }
     {
@@ -48,7 +48,7 @@ impl Frame {
         &self.bytes
     }
 
-    /// Writes bytes into the frame from an offset on.
+    /// Writes bytes into the frame, starting at offset `off`.
     pub(crate) fn write(&mut self, off: usize, bytes: &[u8])
         requires { off + length bytes.now ≤ 4096 }
         ensures written { self.new ≡ with_run self.old off bytes.now }

@@ -8,15 +8,15 @@ use mesh_bins::Bin;
 use std::alloc::{AllocError, Global};
 use std::marker::Model;
 
-/// The frames of an arena, in the order of their pages' numbers. A frame's memory is first touched when the frame is
+/// The frames of an arena, in the order of their page numbers. The memory of a frame is first touched when the frame is
 /// first taken.
 #[derive(Drop)]
 pub(crate) struct Frames {
-    /// The frames up to the last one that was ever taken.
+    /// The frames from the first one to the last one that was ever taken.
     made: Vec<Frame>,
-    /// The numbers of those that are free again.
+    /// The numbers of the frames in `made` that are free again.
     given: Bin,
-    /// How many frames there are, made or not.
+    /// The number of all frames, whether they were ever taken or not.
     count: usize,
 }
 
@@ -76,7 +76,8 @@ fn copy_between(
 
 #[tactic(auto, using(crate::proofs::Given::given_frames))]
 impl Frames {
-    /// Makes `count` free frames. It allocates all the memory that they will ever use, and touches no frame's memory.
+    /// Creates `count` free frames. Allocates all the memory that the frames will ever use, and touches no frame's
+    /// memory. An error is an allocation failure.
     pub(crate) fn new(alloc: Global, count: usize) -> Result<Frames, AllocError>
         requires { count ≤ 4096 }
         ensures { IfOk result (λ frames. frames ≡ replicate count None) }
@@ -86,7 +87,7 @@ impl Frames {
         Ok(Frames { made, given, count })
     }
 
-    /// How many frames there are.
+    /// Returns the number of all frames.
     pub(crate) fn count(&self) -> usize
         ensures { result ≡ length self.now }
     {
@@ -100,8 +101,8 @@ impl Frames {
         place < self.made.len() && !self.given.has(place as u32)
     }
 
-    /// The place of the lowest free frame: the lowest that was given back, or else the first that was never made. If
-    /// all frames are taken, the number of frames.
+    /// Returns the place of the lowest free frame: the lowest frame that was given back, or else the first frame that
+    /// was never taken. Returns the number of frames if all frames are taken.
     pub(crate) fn first_free(&self) -> usize
         ensures within { result ≤ length self.now }
         ensures passed { (k : ℕ) → k < result → IsTaken self.now k }
@@ -113,7 +114,7 @@ impl Frames {
         }
     }
 
-    /// Takes the lowest free frame, with zeros in all its bytes.
+    /// Takes the lowest free frame, which is at `place`, and fills it with zeros.
     pub(crate) fn take(&mut self, place: usize)
         requires within { place < length self.old }
         requires free { is_taken self.old place ≡ false }
@@ -136,7 +137,7 @@ impl Frames {
         self.given.insert(place as u32);
     }
 
-    /// A taken frame's bytes.
+    /// Returns the bytes of a taken frame.
     pub(crate) fn bytes(&self, place: usize) -> &[u8]
         requires { IsTaken self.now place }
         ensures bytes { result.now ≡ bytes_of self.now place }
@@ -145,7 +146,7 @@ impl Frames {
         self.made[place].bytes()
     }
 
-    /// Writes bytes into a taken frame from an offset on.
+    /// Writes bytes into a taken frame, starting at offset `off`.
     pub(crate) fn write(&mut self, place: usize, off: usize, bytes: &[u8])
         requires taken { IsTaken self.old place }
         requires fits { off + length bytes.now ≤ 4096 }
@@ -156,7 +157,7 @@ impl Frames {
         self.made[place].write(off, bytes);
     }
 
-    /// Copies `len` bytes from one taken frame to another.
+    /// Copies `len` bytes from one taken frame to another taken frame.
     pub(crate) fn copy(
         &mut self,
         from: usize,

@@ -1,9 +1,9 @@
 //! The modelled physical memory: an arena of pages of 4,096 bytes, each free or taken.
 //!
-//! All memory is allocated when the arena is made. No later call allocates or deallocates. Contracts see an arena as
-//! the list of its pages, each `None` if it is free, else its bytes. Each call is stated twice: as an equation on that
-//! list, and by places (`is_taken`, `byte_at`, `free_count` and the records `Takes`, `Gives`, `Writes` of
-//! `specs/Pages.antt`), so that a caller need not look inside the list.
+//! All memory is allocated when the arena is created. No later call allocates or deallocates. Contracts see an arena as
+//! the list of its pages: `None` for a free page, and the bytes of a taken page. Each call is specified twice: as an
+//! equation on that list, and by places. The second form uses `is_taken`, `byte_at`, `free_count` and the records
+//! `Takes`, `Gives`, `Writes` of `specs/Pages.antt`, so a caller need not look inside the list.
 #![tactic(auto)]
 
 mod arena;

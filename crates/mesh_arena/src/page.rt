@@ -5,7 +5,7 @@ use std::marker::Model;
 
 /// The number of a physical page, counted from 0.
 ///
-/// An arena returns pages. The default, page 0, only fills places that are not in use.
+/// A page comes from an arena's `take`. The default, page 0, only fills places that are not in use.
 #[derive(Clone, Copy, Default, PartialEq, Eq)]
 pub struct Page(u16);
 
@@ -20,7 +20,7 @@ impl Model for Page {
 }
 
 impl Page {
-    /// The page that has this number.
+    /// Returns the page with this number.
     pub(crate) fn numbered(number: u16) -> Page
         ensures { result ≡ number }
     {
@@ -34,7 +34,7 @@ impl Page {
         u32::from(self.0)
     }
 
-    /// The page's place among the arena's frames.
+    /// Returns the place of the page in the arena's list of frames.
     pub(crate) fn index(self) -> usize
         ensures { result ≡ self }
     {

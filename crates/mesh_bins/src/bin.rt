@@ -9,10 +9,10 @@ use crate::words::{
 use std::alloc::{AllocError, Global};
 use std::marker::Model;
 
-/// The words of a set.
+/// The number of words of a set.
 const WORDS: usize = 1024;
 
-/// The words of the summary.
+/// The number of words of the summary.
 const SUMMARY: usize = 16;
 
 /// A set of numbers below 65,536.
@@ -43,7 +43,7 @@ impl Model for Bin {
 }
 
 impl Bin {
-    /// Creates an empty set. Allocates all the memory that the set will ever use.
+    /// Creates an empty set. Allocates all the memory that the set will ever use. An error is an allocation failure.
     pub fn new(alloc: Global) -> Result<Bin, AllocError>
         ensures { IfOk result (λ bin. bin ≡ set.empty) }
     {
@@ -83,7 +83,8 @@ impl Bin {
         has_bit(self.words.as_slice(), n)
     }
 
-    /// The least member at or above `from`. `None` only if there is no such member.
+    /// Returns the least element of the set that is at or above `from`. Returns `None` if and only if the set has no
+    /// such element.
     pub fn least(&self, from: u32) -> Option<u32>
         ensures { IsLeast (set.contains self.now) from 65536 result }
     {

@@ -3,7 +3,7 @@ ghost use Rattle.std.specs.Prelude.{◌≡◌, ◌≢◌, ℕ, ◌/◌, ◌^◌,
 ghost use Rattle.mesh_bins.specs.Marks.{MayMark, PutsMarked};
 ghost use Rattle.mesh_bins.specs.Words.{has, bit, IsLeast, IsMarked, PutsBit};
 
-/// The bits of a word.
+/// The number of bits of a word.
 pub(crate) const WORD_BITS: u32 = 64;
 
 /// Whether the words have bit `n`.
@@ -37,7 +37,7 @@ pub(crate) fn clear_bit(words: &mut [u64], n: u32)
     words[at] &= !(1 << (n % WORD_BITS));
 }
 
-/// Sets bit `n` of the words, and marks its word.
+/// Sets bit `n` of the words. Sets also the bit of `marks` that says that the word with bit `n` isn't zero.
 pub(crate) fn mark(words: &mut [u64], marks: &mut [u64], n: u32)
     requires { MayMark words.old marks.old n }
     ensures { PutsMarked words.old marks.old words.new marks.new n true }
@@ -46,7 +46,7 @@ pub(crate) fn mark(words: &mut [u64], marks: &mut [u64], n: u32)
     set_bit(marks, n / WORD_BITS);
 }
 
-/// Clears bit `n` of the words, and clears the mark of its word if the word is then zero.
+/// Clears bit `n` of the words. If the word with bit `n` is then zero, clears also that word's bit of `marks`.
 pub(crate) fn unmark(words: &mut [u64], marks: &mut [u64], n: u32)
     requires { MayMark words.old marks.old n }
     ensures { PutsMarked words.old marks.old words.new marks.new n false }
@@ -57,7 +57,7 @@ pub(crate) fn unmark(words: &mut [u64], marks: &mut [u64], n: u32)
     }
 }
 
-/// Whether a word is zero.
+/// Whether the word at a place is zero.
 pub(crate) fn is_zero(words: &[u64], place: u32) -> bool
     requires { place < length words.now }
     ensures { result ≡ nat_eq (slice_index words.now place) 0 }
@@ -65,7 +65,7 @@ pub(crate) fn is_zero(words: &[u64], place: u32) -> bool
     words[place as usize] == 0
 }
 
-/// The least bit of a word at or above `from`.
+/// Returns the number of the least set bit of a word at or above `from`. Returns `None` if no such bit is set.
 pub(crate) fn least_in(word: u64, from: u32) -> Option<u32>
     requires { from < 64 }
     ensures { IsLeast (bit word) from 64 result }
@@ -77,7 +77,7 @@ pub(crate) fn least_in(word: u64, from: u32) -> Option<u32>
     Some(from + rest.trailing_zeros())
 }
 
-/// The least bit of the words at or above `from`.
+/// Returns the number of the least set bit of the words at or above `from`. Returns `None` if no such bit is set.
 pub(crate) fn least_of(words: &[u64], from: u32) -> Option<u32>
     requires { 64 * length words.now ≤ 65536 }
     ensures { IsLeast (has words.now) from (64 * length words.now) result }
@@ -92,7 +92,8 @@ pub(crate) fn least_of(words: &[u64], from: u32) -> Option<u32>
     None
 }
 
-/// The least bit of the words at or above `from`, by the marks of the words that aren't zero.
+/// Returns the number of the least set bit of the words at or above `from`. Returns `None` if no such bit is set. Bit
+/// `j` of `marks` must be set if and only if word `j` isn't zero, so words of zeros are skipped.
 pub(crate) fn least_marked(words: &[u64], marks: &[u64], from: u32) -> Option<u32>
     requires few { 64 * length marks.now ≤ 65536 }
     requires long { length words.now ≤ 64 * length marks.now }

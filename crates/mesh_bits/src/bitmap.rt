@@ -8,10 +8,10 @@ ghost use Rattle.mesh_bits.specs.Bits.{is_member, member_count, clear_count, are
 use std::marker::Model;
 use std::simd::prelude::*;
 
-/// The bits of a word.
+/// The number of bits of a word.
 const WORD_BITS: u32 = 64;
 
-/// The words of a set.
+/// The number of words of a set.
 const WORDS: usize = 4;
 
 /// A set of numbers below a width of 1 to 256.
@@ -92,8 +92,8 @@ impl Bits {
         clear_bit(&mut self.words, i);
     }
 
-    /// Returns the number at index `place`, from 0, of the ascending list of the numbers that are not in the set.
-    /// `None` if that list has no such index.
+    /// Returns the number that has index `place`, from 0, among the numbers that are not in the set, ascending. Returns
+    /// `None` if at most `place` numbers below the width are not in the set.
     pub fn nth_clear(&self, place: u32) -> Option<u32>
         ensures clear { IfSome result (λ i. (i < length self.now) × (is_member self.now i ≡ false)) }
         ensures place { IfSome result (λ i. clear_count (take i self.now) ≡ place) }
@@ -102,7 +102,7 @@ impl Bits {
         nth_clear_bit(&self.words, self.width, place)
     }
 
-    /// How many numbers are in the set.
+    /// Returns the number of elements of the set.
     pub fn count(&self) -> u32
         ensures { result ≡ member_count self.now }
     {
@@ -118,7 +118,7 @@ impl Bits {
         share_no_bit(&self.words, &other.words)
     }
 
-    /// The numbers that are in either set. The sets must have the same width.
+    /// Returns the set of the numbers that are in at least one of the two sets. The sets must have the same width.
     pub fn union(&self, other: &Bits) -> Bits
         requires { length self.now ≡ length other.now }
         ensures union { result ≡ union_of self.now other.now }
@@ -159,7 +159,8 @@ fn clear_bit(words: &mut [u64; WORDS], i: u32)
     words[at] &= !(1 << (i % WORD_BITS));
 }
 
-/// Returns the clear bit at index `place`, from 0, among the clear bits below the width.
+/// Returns the number of the clear bit that has index `place`, from 0, among the clear bits below the width. Returns
+/// `None` if at most `place` bits below the width are clear.
 fn nth_clear_bit(words: &[u64; WORDS], width: u32, place: u32) -> Option<u32>
     requires { width ≤ 256 }
     ensures clear { IfSome result (λ i. (i < width) × (has words.now i ≡ false)) }
@@ -172,8 +173,8 @@ fn nth_clear_bit(words: &[u64; WORDS], width: u32, place: u32) -> Option<u32>
 }
 
 /// Finds the word that contains the clear bit at index `place`, if that bit is below the width. Returns the number of
-/// the word's first bit, and the index of the clear bit among the clear bits of that word. A word that ends before that
-/// bit is skipped by the count of its clear bits.
+/// the word's first bit, and the index of the clear bit among the clear bits of that word. Earlier words are skipped by
+/// their counts of clear bits.
 fn skip_words(words: &[u64; WORDS], width: u32, place: u32) -> (u32, u32)
     requires { width ≤ 256 }
     ensures word { result.0 % 64 ≡ 0 }
@@ -194,7 +195,8 @@ fn skip_words(words: &[u64; WORDS], width: u32, place: u32) -> (u32, u32)
     (first, left)
 }
 
-/// Returns the bit at index `place`, from 0, among the set bits of a word, ascending.
+/// Returns the number of the bit that has index `place`, from 0, among the set bits of a word, ascending. Returns
+/// `None` if at most `place` bits are set.
 fn nth_one(word: u64, place: u32) -> Option<u32>
     ensures one { IfSome result (λ k. (k < 64) × (bit_at word k ≡ 1)) }
     ensures place { IfSome result (λ k. low_ones k word ≡ place) }
@@ -213,7 +215,7 @@ fn nth_one(word: u64, place: u32) -> Option<u32>
     Some(rest.trailing_zeros())
 }
 
-/// How many bits of the words are set.
+/// Returns the number of bits that are set in the words.
 fn count_bits(words: &[u64; WORDS]) -> u32
     ensures count { result ≡ ones_of words.now }
     ensures words { (j : ℕ) → slice_index words.now j < 2 ^ 64 }
@@ -222,15 +224,15 @@ fn count_bits(words: &[u64; WORDS]) -> u32
     a.count_ones() + b.count_ones() + c.count_ones() + d.count_ones()
 }
 
-/// Whether no bit is set in both. The first words settle most pairs that share a bit; the other pairs are compared in
-/// all four lanes at once.
+/// Whether no bit is set in both lists of words. For most pairs that share a bit, the first words decide. The other
+/// pairs are compared in all four lanes at once.
 fn share_no_bit(words: &[u64; WORDS], others: &[u64; WORDS]) -> bool
     ensures { IsTrue result ↔ HaveNoBitInBoth words.now others.now }
 {
     words[0] & others[0] == 0 && any_lane(both_lanes(*words, *others)) == 0
 }
 
-/// The bits that are set in both, lane by lane.
+/// Returns, for each lane, the bits that are set in both words of that lane.
 fn both_lanes(words: [u64; WORDS], others: [u64; WORDS]) -> [u64; WORDS]
     ensures both { result ≡ zip2 bit_and words others }
     ensures words { (j : ℕ) → slice_index words j < 2 ^ 64 }
@@ -240,14 +242,14 @@ fn both_lanes(words: [u64; WORDS], others: [u64; WORDS]) -> [u64; WORDS]
     (u64x4::from_array(words) & u64x4::from_array(others)).to_array()
 }
 
-/// The bits that are set in any lane.
+/// Returns the bits that are set in at least one lane.
 fn any_lane(lanes: [u64; WORDS]) -> u64
     ensures { result ≡ fold_l bit_or 0 lanes }
 {
     u64x4::from_array(lanes).reduce_or()
 }
 
-/// The bits that are set in either.
+/// Returns, for each place, the bits that are set in at least one of the two words at that place.
 fn either_bits(words: &[u64; WORDS], others: &[u64; WORDS]) -> [u64; WORDS]
     ensures { HasBitsOfEither words.now others.now result }
 {

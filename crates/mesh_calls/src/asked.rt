@@ -1,4 +1,4 @@
-//! `W BEGIN END COMMAND`: a worker's command, and when its call began and ended.
+//! Reads `W BEGIN END COMMAND`: a worker's command, and the times at which its call began and ended.
 ghost use Rattle.std.specs.Prelude.{◌≡◌};
 ghost use Rattle.mesh_calls.specs.CallFiles.{call_asked_in, is_object_word, object_command_in};
 ghost use Rattle.mesh_calls.specs.CallWords.{IsAskedRead};
@@ -11,10 +11,10 @@ use mesh_fields::lines::is_word;
 use mesh_fields::numbers::{number, number32};
 use model_words::FaultKind;
 
-/// The greatest number of a worker.
+/// The greatest number that a worker can have.
 const MAX_WORKER: u32 = 65_535;
 
-/// A worker's command, and when its call began and ended.
+/// A worker's command, and the times at which its call began and ended.
 #[derive(Drop)]
 pub(crate) struct AskedCall {
     pub worker: u32,
@@ -23,9 +23,10 @@ pub(crate) struct AskedCall {
     pub command: SpeltCommand,
 }
 
-/// Reads the fields before a call's arrow.
+/// Reads the fields of a call's line before `->`.
 ///
-/// WORD if a worker, a begin, an end and a word are not all there; otherwise the leftmost fault.
+/// The error is WORD if the worker, the begin, the end or the word of the command is missing. Otherwise it is that of
+/// the leftmost fault.
 pub(crate) fn call_asked_of(fields: &[&[u8]]) -> Result<AskedCall, FaultKind>
     ensures { IsAskedRead (call_asked_in (texts fields.now)) result }
 {
@@ -44,7 +45,8 @@ pub(crate) fn call_asked_of(fields: &[&[u8]]) -> Result<AskedCall, FaultKind>
     })
 }
 
-/// Reads the command with this word and these fields. WORD if the command doesn't name one object by its cell.
+/// Reads the command with this word and these fields. The error is WORD if the command doesn't name one object by its
+/// cell. Otherwise it is that of the leftmost fault.
 fn object_command_of(word: &[u8], fields: &[&[u8]]) -> Result<SpeltCommand, FaultKind>
     ensures { IsReadAs Dialect.History (object_command_in word.now (texts fields.now)) result }
 {

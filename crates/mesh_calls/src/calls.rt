@@ -1,4 +1,4 @@
-//! The lines of a history of overlapping calls: the first one, and the calls.
+//! Reads the lines of a history of overlapping calls: the first line, and the lines of calls.
 ghost use Rattle.std.specs.Prelude.{◌≡◌, ◌⊎◌, ◌<◌, ◌++◌, ◌∷◌, [], Ok, Err, Some, None, true, false, length, IfOk, IfErr, IfSome, IsNone, OnOk, OnErr};
 ghost use Rattle.std.specs.List.{list_any};
 ghost use Rattle.model_jobs.specs.JobFiles.{is_empty};
@@ -27,14 +27,14 @@ const MAX_CALL_FIELDS: usize = 37;
 /// The fields of a call's line.
 type CallFields<'a> = ArrayVec<&'a [u8], MAX_CALL_FIELDS>;
 
-/// Reads the first line of a history of overlapping calls, `history 2`, without its end.
+/// Reads the first line of a history of overlapping calls, `history 2`, without its line end.
 ///
-/// The first kind of fault that holds for the line is returned:
+/// The error is the first of these that applies:
 ///
-/// - LONG_LINE if it has more than 1,024 bytes
-/// - BYTE if one of them isn't from 20 to 7e
-/// - WORD if it isn't the word `history` and one field after it
-/// - NUMBER if that field isn't `2`
+/// - LONG_LINE, if the line has more than 1,024 bytes.
+/// - BYTE, if a byte isn't from 20 to 7e (hexadecimal).
+/// - WORD, if the line isn't the word `history`, a space and one field that isn't empty.
+/// - NUMBER, if this field isn't `2`.
 pub fn read_call_head(line: &[u8]) -> Result<(), FaultKind>
     ensures { result ≡ call_head_in line.now }
 {
@@ -47,13 +47,17 @@ pub fn read_call_head(line: &[u8]) -> Result<(), FaultKind>
     Ok(())
 }
 
-/// Reads the line of a call, `W BEGIN END COMMAND -> ANSWER`, without its end.
+/// Reads the line of a call, `W BEGIN END COMMAND -> ANSWER`, without its line end.
 ///
-/// LONG_LINE if the line has more than 1,024 bytes, and BYTE if one of them isn't from 20 to 7e. WORD if a field is
-/// empty, if there are more than 37 fields, or if none is `->`. Otherwise the leftmost fault, as in `history 1`.
+/// The error is the first of these that applies:
 ///
-/// NUMBER comes also if END is below BEGIN. WORD comes also if the command doesn't name one object by its cell, or if
-/// the command can't have the answer. Only a `new` may be refused.
+/// - LONG_LINE, if the line has more than 1,024 bytes.
+/// - BYTE, if a byte isn't from 20 to 7e (hexadecimal).
+/// - WORD, if a field is empty, if there are more than 37 fields, or if no field is `->`.
+///
+/// Otherwise the error is that of the leftmost fault, as in `history 1`. Two faults are added. The error is NUMBER if
+/// END is below BEGIN. It is WORD if the command doesn't name one object by its cell, or if the command can't have the
+/// answer. Only a `new` may be refused.
 pub fn read_call(line: &[u8]) -> Result<TimedCall, FaultKind>
     ensures ok { IfOk result (λ call. call_in line.now ≡ Ok (plain_call call)) }
     ensures err { IfErr result (λ kind. call_in line.now ≡ Err kind) }
@@ -65,7 +69,7 @@ pub fn read_call(line: &[u8]) -> Result<TimedCall, FaultKind>
     call_of(before, behind)
 }
 
-/// Splits a call's line into its fields. WORD if one of them is empty, or if there are too many for any call.
+/// Splits a call's line into its fields. The error is WORD if a field is empty, or if there are more than 37 fields.
 fn call_fields_of(line: &[u8]) -> Result<CallFields<'_>, FaultKind>
     ensures fields { IfOk result (λ fields. texts fields.items ≡ line_fields line.now) }
     ensures filled { OnOk result (list_any is_empty (line_fields line.now) ≡ false) }
@@ -83,7 +87,7 @@ fn call_fields_of(line: &[u8]) -> Result<CallFields<'_>, FaultKind>
     Ok(fields)
 }
 
-/// Adds a field. WORD if the field is empty or there is no room.
+/// Adds a field. The error is WORD if the field is empty, or if there are already 37 fields.
 fn add_field<'a>(fields: &mut CallFields<'a>, field: &'a [u8]) -> Result<(), FaultKind>
     ensures ok { OnOk result (texts fields.new.items ≡ texts fields.old.items ++ field.now ∷ []) }
     ensures filled { OnOk result (is_empty field.now ≡ false) }
@@ -96,7 +100,7 @@ fn add_field<'a>(fields: &mut CallFields<'a>, field: &'a [u8]) -> Result<(), Fau
     fields.try_push(field).map_err(|_| FaultKind::Word)
 }
 
-/// The fields before the first arrow, and those after it. `None` if no field is an arrow.
+/// Returns the fields before the first field `->`, and the fields after it. Returns `None` if no field is `->`.
 fn arrow_split<'a, 'b>(fields: &'b [&'a [u8]]) -> Option<(&'b [&'a [u8]], &'b [&'a [u8]])>
     ensures some { IfSome result
         (λ parts. arrow_split (texts fields.now) ≡ Some (texts parts.0.now, texts parts.1.now)) }
@@ -106,7 +110,8 @@ fn arrow_split<'a, 'b>(fields: &'b [&'a [u8]]) -> Option<(&'b [&'a [u8]], &'b [&
     Some((&fields[..place], &fields[place + 1..]))
 }
 
-/// Reads the call with these fields before its arrow and these after it.
+/// Reads the call whose line has the fields `before` in front of `->` and the fields `behind` after it. The error is
+/// that of the leftmost fault.
 fn call_of(before: &[&[u8]], behind: &[&[u8]]) -> Result<TimedCall, FaultKind>
     ensures { IsCallRead (call_of (texts before.now) (texts behind.now)) result }
 {
@@ -123,7 +128,8 @@ fn call_of(before: &[&[u8]], behind: &[&[u8]]) -> Result<TimedCall, FaultKind>
     })
 }
 
-/// Reads the answer to a command. WORD if the command can't have that answer.
+/// Reads the answer to a command. The error is WORD if the answer is missing, or if the command can't have this answer.
+/// For a misspelt answer, it is the error of `reply_of`.
 fn effect_of(command: &SpeltCommand, fields: &[&[u8]]) -> Result<RecordedReply, FaultKind>
     ensures read { IsReplyRead (effect_in (plain_command command.now) (texts fields.now)) result }
     ensures effect { IfOk result (λ reply. has_effect (plain_command command.now) (plain_reply reply) ≡ true) }
@@ -138,7 +144,7 @@ fn effect_of(command: &SpeltCommand, fields: &[&[u8]]) -> Result<RecordedReply, 
     Ok(reply)
 }
 
-/// Whether the command may have this answer, so that its effect is known.
+/// Whether the command can have this answer. If it can, the answer shows the command's effect.
 fn has_effect(command: &SpeltCommand, reply: &RecordedReply) -> bool
     ensures { result ≡ has_effect (plain_command command.now) (plain_reply reply.now) }
 {

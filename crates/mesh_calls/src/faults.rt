@@ -1,4 +1,4 @@
-//! Why a history of overlapping calls is read no further.
+//! The reasons why the reading of a history of overlapping calls stops.
 ghost use Rattle.std.specs.Prelude.{◌≡◌};
 ghost use Rattle.mesh_calls.specs.CallFaults.{call_error_of};
 ghost use Rattle.mesh_calls.specs.declared.faults.CallError.{CallError};
@@ -8,17 +8,17 @@ use model_words::TextFault;
 use std::alloc::AllocError;
 use thiserror::Error;
 
-/// Why a history of overlapping calls was read no further.
+/// The reason why the reading of a history of overlapping calls stopped.
 #[derive(Clone, Copy, Debug, PartialEq, Eq, Error)]
 pub enum CallError {
-    /// The text has a fault; this is its first one.
+    /// The first fault of the text.
     #[error("{0}")]
     Text(TextFault),
-    /// The call of this line is out of order: it began before an earlier line's call, or no later than an earlier call
-    /// of the same worker ended.
+    /// The call in this line is out of order. Either it began before the call of an earlier line, or it didn't begin
+    /// after the end of an earlier call of the same worker.
     #[error("line {0}: ORDER")]
     Order(u32),
-    /// The input failed, or returned more bytes than there was room for.
+    /// The input failed, or returned more bytes than the buffer has room for.
     #[error("read fault")]
     Read,
     /// An allocation failed.

@@ -1,4 +1,4 @@
-//! The calls of the history that a device gives.
+//! Reads the calls of a history from a device.
 ghost use Rattle.std.specs.Prelude.{◌≡◌, ◌+◌, ◌<◌, ◌≤◌, ◌∷◌, ◌++◌, ℕ, List, Option, Ok, Err, [], true, false, IfErr, IfOk, IfSome, IsNone, OnOk};
 ghost use Rattle.model_intervals.specs.Intervals.{Call};
 ghost use Rattle.model_jobs.specs.JobFiles.{fault_at};
@@ -16,17 +16,18 @@ use mesh_line_input::LineInput;
 use model_words::{FaultKind, TextFault};
 use std::alloc::{AllocError, Global};
 
-/// A history of overlapping calls that comes from a device, of which a prefix was read.
+/// A history of overlapping calls that comes from a device, after a beginning of the text was read.
 #[derive(Drop)]
 pub struct CallInput {
     /// The lines of the text.
     lines: LineInput,
-    /// What must be known of the calls so far.
+    /// What decides whether the next call is in order.
     order: CallOrder,
 }
 
 impl CallInput {
-    /// A history of which nothing was read. It allocates the memory for one read. An error is an allocation failure.
+    /// Returns a history of which nothing was read, and allocates the buffer for one read. Returns an error if the
+    /// allocation fails.
     pub fn new(alloc: Global) -> Result<CallInput, AllocError>
         ensures { IfOk result IsFresh }
     {
@@ -36,17 +37,23 @@ impl CallInput {
         })
     }
 
-    /// How many lines were read: the number of the line of the call that came last, from 1.
+    /// Returns the number of lines read so far. It is the line number of the last call, counted from 1.
     pub fn lines(&self) -> u32
         ensures { result ≡ lines_before self.now }
     {
         self.lines.lines()
     }
 
-    /// Returns the next call of the history that the input gives, or `None` at its end.
+    /// Returns the next call of the history that is read from `input`, or `None` at the end of the history.
     ///
-    /// Errors: `Text` if a line has a fault, or the text ends in a line; `Order` if a call is out of order; `Read` if
-    /// and only if the input failed; `Memory` if an allocation failed. The history must not be used after an error.
+    /// Errors:
+    ///
+    /// - `Text`, if a line has a fault, if the text ends within a line, or if the text has no line.
+    /// - `Order`, if a call is out of order.
+    /// - `Read`, if and only if the input failed.
+    /// - `Memory`, if an allocation failed.
+    ///
+    /// After an error, the history must not be used.
     pub fn next<I: Source>(&mut self, input: &mut I) -> Result<Option<TimedCall>, CallError>
         requires { I.has_failed input.old ≡ false }
         ensures ok { OnOk result (I.has_failed input.new ≡ false) }
@@ -74,7 +81,8 @@ impl CallInput {
         }
     }
 
-    /// Takes the line that was read last, and returns its call, or `None` if the line is the head.
+    /// Reads the call in the line that was read last. Returns `None` if this line is the first of the text. The errors
+    /// are those of `next`, except `Read`.
     fn take_line(&mut self) -> Result<Option<TimedCall>, CallError>
         requires { 1 ≤ lines_before self.old }
         ensures same { self.new.lines ≡ self.old.lines }
@@ -110,7 +118,7 @@ fn head_at(line: &[u8]) -> Result<(), CallError>
     }
 }
 
-/// Reads the line of a call, which has this line number.
+/// Reads the line of a call. Its line number is `number`.
 fn call_at(number: u32, line: &[u8]) -> Result<TimedCall, CallError>
     ensures ok { IfOk result (λ call. call_in line.now ≡ Ok (plain_call call)) }
     ensures is_read { IfOk result IsReadCall }
@@ -122,7 +130,7 @@ fn call_at(number: u32, line: &[u8]) -> Result<TimedCall, CallError>
     }
 }
 
-/// A fault of a line.
+/// Returns the fault of this kind in the line with this number.
 fn fault_at(line: u32, kind: FaultKind) -> TextFault
     ensures { result ≡ fault_at line kind }
 {

@@ -1,7 +1,8 @@
-//! What the definitions mean. A law is the contract of a function that does nothing.
+//! A law about the definitions. A law is the contract of a function that does nothing.
 ghost use Rattle.mesh_calls.specs.EffectLaws.{TestsTellEffects};
 
-/// A call's answer is accepted if and only if it shows the effect of its command, as in a history of the model.
+/// The check of a call's answer accepts an answer if and only if the answer shows the effect of the command, as
+/// `model_intervals` defines effects.
 pub fn tests_tell_effects()
     ensures { TestsTellEffects }
 {}

@@ -1,7 +1,8 @@
-//! Reads the lines of a history of overlapping calls: commands and answers, and when each call began and ended.
+//! Reads the lines of a history of overlapping calls: commands, answers, and when each call began and ended.
 //!
-//! `read_call_head` and `read_call` read one line, without its end. A `CallInput` returns the calls of a history that
-//! comes from a device, one by one, each of them in order. A contract sees what was read as calls of `model_intervals`.
+//! `read_call_head` and `read_call` read one line, without its line end. A `CallInput` reads a history from a device,
+//! and returns its calls one by one. Each returned call is in order. A contract sees the calls as those of
+//! `model_intervals`.
 #![tactic(auto)]
 
 mod asked;

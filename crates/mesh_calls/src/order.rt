@@ -9,17 +9,17 @@ use crate::TimedCall;
 use std::alloc::{AllocError, Global};
 use std::collections::BTreeMap;
 
-/// What must be known of the calls so far to decide whether the next one is in order.
+/// What decides whether the next call of a history is in order.
 #[derive(Drop)]
 pub(crate) struct CallOrder {
-    /// When the last call began. No earlier call began later.
+    /// The time at which the last call began. No earlier call began later.
     last_begin: u64,
-    /// When the last call of each worker ended.
+    /// The time at which the last call of each worker ended.
     ends: BTreeMap<u32, u64>,
 }
 
 impl CallOrder {
-    /// The order of no calls. It allocates nothing.
+    /// Returns the order of a history without calls, and allocates nothing.
     pub(crate) fn new(alloc: Global) -> CallOrder
         ensures { IsOrderOf result [] }
     {
@@ -29,8 +29,8 @@ impl CallOrder {
         }
     }
 
-    /// Adds the next call, and returns whether it is in order: each call so far began no later, and those of the same
-    /// worker ended before it begins. An error is an allocation failure.
+    /// Adds the next call if it is in order, and returns whether it is. A call is in order if no earlier call began
+    /// later, and each earlier call of the same worker ended before it begins. Returns an error if an allocation fails.
     pub(crate) fn add(&mut self, call: &TimedCall) -> Result<bool, AllocError>
         requires { call.now.begin ≤ call.now.end }
         ensures tested { (calls : List Call) → IsOrderOf self.old calls
@@ -47,7 +47,7 @@ impl CallOrder {
         Ok(true)
     }
 
-    /// Whether all calls of a worker ended before this moment.
+    /// Whether each call of the worker so far ended before the time `begin`.
     fn may_begin(&self, worker: u32, begin: u64) -> bool
         ensures { result ≡ may_begin (end_of self.now worker) begin }
     {

@@ -9,8 +9,8 @@ use model_words::{FaultKind, Refusal};
 /// The greatest number of a refusal.
 const MAX_REFUSAL: u32 = 17;
 
-/// The refusal of this number and this name. NUMBER if the number isn't from 1 to 17, and WORD if the name is that of
-/// another refusal or of none.
+/// Returns the refusal with this number and this name. The error is NUMBER if the first field isn't a number from 1 to
+/// 17. It is WORD if the second field isn't the name of the refusal with this number.
 pub(crate) fn refusal_named(number: &[u8], name: &[u8]) -> Result<Refusal, FaultKind>
     ensures { result ≡ refusal_in number.now name.now }
 {

@@ -1,4 +1,4 @@
-//! Lines and texts that are read, and those with a fault. The expected values follow from the rules by hand.
+//! Tests of lines and texts with and without a fault. The expected values were derived from the rules by hand.
 use crate::{CallError, CallInput, read_call, read_call_head};
 use mesh_devices::Input;
 use mesh_fields::commands::SpeltCommand;
@@ -7,7 +7,7 @@ use model_words::{FaultKind, Refusal, TextFault};
 use std::fmt::Write;
 use std::process::Abort;
 
-/// The fault of a call's line.
+/// Returns the fault of a call's line, or `None` if it has no fault.
 fn fault(line: &[u8]) -> Option<FaultKind> {
     match read_call(line) {
         Ok(_) => None,
@@ -164,7 +164,8 @@ fn the_head_is_history_2(rt: HostRuntime) {
     assert_eq!(rt; read_call_head(b"mesh 2"), Err(FaultKind::Word));
 }
 
-/// How many calls a text has, how many of its lines were read, and why reading stopped.
+/// Returns how many calls of a text were read, how many lines were read, and why the reading stopped: `None` at the end
+/// of the text.
 fn read(rt: &(impl Abort + AllocGlobal), text: &[u8]) -> (u32, u32, Option<CallError>) {
     let mut history = CallInput::new(rt.alloc()).expect(rt, "memory");
     let mut input = Input::new(text);
@@ -178,7 +179,7 @@ fn read(rt: &(impl Abort + AllocGlobal), text: &[u8]) -> (u32, u32, Option<CallE
     (u32::MAX, history.lines(), None)
 }
 
-/// A fault of a line.
+/// Returns the error for a fault in a line.
 fn text_fault(line: u32, kind: FaultKind) -> Option<CallError> {
     Some(CallError::Text(TextFault { line, kind }))
 }
@@ -217,7 +218,7 @@ fn calls_are_out_of_order(rt: HostRuntime) {
     assert_eq!(rt; read(&rt, overlapping), (2, 4, Some(CallError::Order(4))));
 }
 
-/// An error as it is printed.
+/// Returns the printed form of an error.
 fn printed(rt: &(impl Abort + AllocGlobal), error: CallError) -> String {
     let mut text = String::new(rt.alloc());
     write!(text, "{error}").expect(rt, "memory");

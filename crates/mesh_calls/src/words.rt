@@ -1,12 +1,12 @@
-//! A call as it is in a history of overlapping calls.
+//! A call in a history of overlapping calls.
 use mesh_history::RecordedEntry;
 
-/// One answered command, and when its call began and ended.
+/// One answered command, and the times at which its call began and ended.
 #[derive(Drop)]
 pub struct TimedCall {
-    /// When the call began.
+    /// The time at which the call began.
     pub begin: u64,
-    /// When it ended, no earlier.
+    /// The time at which the call ended. It isn't below `begin`.
     pub end: u64,
     /// The worker, the command and the answer.
     pub entry: RecordedEntry,

@@ -12,15 +12,15 @@ use std::marker::Model;
 /// The content of a cell in which a number was stored.
 #[derive(Clone, Copy)]
 pub enum Held {
-    /// This number. Its object may have been freed through another cell.
+    /// The number of an object, which may have been freed through another cell.
     Number(u32),
     /// The number of an object that was freed through this cell.
     Freed,
 }
 
-/// The contents of each cell. No cell is kept twice.
+/// The content of each cell. A cell is kept with its number or as the cell of a freed object, never both.
 ///
-/// The cells of freed objects are kept as ranges, so adjacent ones take no more memory than a single one.
+/// Cells through which an object was freed are kept as ranges, so adjacent ones take no more memory than a single one.
 #[derive(Drop)]
 pub struct Cells {
     // The numbers that cells hold.
@@ -42,7 +42,7 @@ impl Model for Cells {
 }
 
 impl Cells {
-    /// Returns cells without numbers. It allocates nothing.
+    /// Returns cells without numbers. Nothing is allocated.
     pub fn new(alloc: Global) -> Cells
         ensures { IsNew result }
     {
@@ -52,7 +52,7 @@ impl Cells {
         }
     }
 
-    /// The content of a cell. `None` if no number was stored in it.
+    /// Returns the content of a cell, or `None` if no number was stored in the cell.
     pub fn held(&self, cell: u32) -> Option<Held>
         ensures { IsHeld self.now cell result }
     {
@@ -74,7 +74,8 @@ impl Cells {
         Ok(())
     }
 
-    /// Records that the object whose number a cell holds is no longer live. An error is an allocation failure.
+    /// Records that the object whose number a cell holds was freed through this cell. An error is an allocation
+    /// failure.
     pub fn free(&mut self, cell: u32) -> Result<(), AllocError>
         requires { IsSome (number_at self.old cell) }
         ensures { OnOk result (IsFreedAt self.old self.new cell) }

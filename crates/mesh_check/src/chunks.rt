@@ -9,29 +9,29 @@ use std::alloc::{AllocError, Global};
 use std::collections::BTreeMap;
 use std::marker::Model;
 
-/// How many bytes a chunk has. This project's own choice.
+/// The number of bytes of a chunk, this project's own choice.
 pub const CHUNK_BYTES: usize = 64;
 
-/// Contracts contain the number itself.
+/// Proves the value 64, which contracts contain in place of the constant.
 const _: () = prove!(CHUNK_BYTES == 64);
 
 /// The bytes of a chunk that is not kept.
 static ZEROS: [u8; CHUNK_BYTES] = [0; CHUNK_BYTES];
 
-/// A kept chunk. Contracts see its bytes.
+/// A kept chunk. In contracts, a `Chunk` is the list of its bytes.
 ///
-/// The stores are in a box of their own, because a node of a tree has room for several values even if it has only one.
+/// The stores are boxed, because a node of a B-tree has room for several values even if it has only one.
 #[derive(Drop)]
 pub struct Chunk {
     stores: Box<Stores>,
 }
 
-/// The bytes that were stored in a chunk, and the lines that stored them.
+/// A chunk's bytes, and for each byte the line that stored it last.
 #[derive(Drop)]
 struct Stores {
     /// The bytes.
     bytes: [u8; CHUNK_BYTES],
-    /// For each byte the line of the last entry that stored it, 0 if none did.
+    /// For each byte, the line of the last entry that stored the byte, or 0 if no entry did.
     lines: [u32; CHUNK_BYTES],
 }
 
@@ -68,7 +68,7 @@ impl Chunk {
         &self.stores.bytes
     }
 
-    /// Writes bytes from a place on, for the entry on a line.
+    /// Overwrites the bytes that begin at `place`, for the entry on a line.
     fn write(&mut self, place: usize, bytes: &[u8], line: u32)
         requires { place + length bytes.now ≤ 64 }
         ensures written { self.new ≡ overwritten self.old place bytes.now }
@@ -78,7 +78,7 @@ impl Chunk {
         mark(&mut self.stores.lines, place, bytes.len(), line);
     }
 
-    /// The line of the last entry that stored the byte at a place. `None` if none did.
+    /// Returns the line of the last entry that stored the byte at a place, or `None` if no entry did.
     fn stored_at(&self, place: usize) -> Option<u32>
         requires { place < 64 }
     {
@@ -89,7 +89,7 @@ impl Chunk {
     }
 }
 
-/// A chunk's bytes.
+/// Returns the bytes of the chunk with this number: 64 zeros if the chunk isn't kept.
 pub fn chunk_bytes(chunks: &BTreeMap<u64, Chunk>, number: u64) -> &[u8]
     ensures bytes { result.now ≡ chunk_bytes (get nat_cmp chunks.now number) }
     ensures sized { length result.now ≡ 64 }
@@ -100,15 +100,15 @@ pub fn chunk_bytes(chunks: &BTreeMap<u64, Chunk>, number: u64) -> &[u8]
     }
 }
 
-/// The line of the last entry that stored the byte at a place of a chunk. `None` if none did.
+/// Returns the line of the last entry that stored the byte at a place of a chunk, or `None` if no entry did.
 pub fn stored_at(chunks: &BTreeMap<u64, Chunk>, number: u64, place: usize) -> Option<u32>
     requires { place < 64 }
 {
     chunks.get(&number)?.stored_at(place)
 }
 
-/// Stores bytes in a chunk from a place on, for the entry on a line. An error is an allocation failure, and comes only
-/// for a chunk that was not kept.
+/// Overwrites the bytes of a chunk that begin at `place`, for the entry on a line. An error is an allocation failure.
+/// It comes only if the chunk was not kept, and nothing changes then.
 pub fn store_in(
     alloc: Global,
     chunks: &mut BTreeMap<u64, Chunk>,
@@ -137,7 +137,7 @@ pub fn store_in(
     }
 }
 
-/// Writes bytes into a chunk from a place on.
+/// Overwrites the bytes of a chunk that begin at `place`.
 fn write(chunk: &mut [u8; CHUNK_BYTES], place: usize, bytes: &[u8])
     requires { place + length bytes.now ≤ 64 }
     ensures written { chunk.new ≡ overwritten chunk.old place bytes.now }
@@ -146,7 +146,7 @@ fn write(chunk: &mut [u8; CHUNK_BYTES], place: usize, bytes: &[u8])
     chunk[place..place + bytes.len()].copy_from_slice(bytes);
 }
 
-/// Records a line for `len` bytes from a place on.
+/// Records `line` as the last line that stored the `len` bytes that begin at `place`.
 fn mark(lines: &mut [u32; CHUNK_BYTES], place: usize, len: usize, line: u32)
     requires { place + len ≤ 64 }
 {

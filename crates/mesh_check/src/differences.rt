@@ -1,4 +1,4 @@
-//! How an answer differs from the expected one.
+//! The difference between an answer and the expected one.
 ghost use Rattle.std.specs.Prelude.{◌≡◌, ◌≢◌, ◌↔◌, IfSome, IsTrue, IsNone, IsSome};
 ghost use Rattle.mesh_history.specs.RecordedWords.{plain_reply};
 ghost use Rattle.mesh_check.specs.Differences.{IsFirst, bytes_of};
@@ -10,7 +10,8 @@ use mesh_history::RecordedReply;
 use model_words::MAX_BYTES;
 use std::array;
 
-/// The reason why an answer that differs from the expected one is rejected.
+/// Returns the reason to reject an answer that differs from the expected one: `LiveRefused` if only the answer is a
+/// refusal, and otherwise `Differs`.
 pub fn difference(
     answered: RecordedReply,
     wanted: RecordedReply,
@@ -42,7 +43,7 @@ fn is_refusal(reply: &RecordedReply) -> bool
     matches!(reply, RecordedReply::Refused(_))
 }
 
-/// Returns a copy of a reply. It allocates nothing.
+/// Returns a copy of a reply. Nothing is allocated.
 pub fn copied(reply: &RecordedReply) -> RecordedReply
     ensures { result ≡ reply.now }
 {
@@ -56,7 +57,7 @@ pub fn copied(reply: &RecordedReply) -> RecordedReply
     }
 }
 
-/// Returns a copy of bytes. It allocates nothing.
+/// Returns a copy of bytes. Nothing is allocated.
 fn copied_bytes(bytes: &ArrayVec<u8, MAX_BYTES>) -> ArrayVec<u8, MAX_BYTES>
     ensures { result ≡ bytes.now }
 {
@@ -65,7 +66,7 @@ fn copied_bytes(bytes: &ArrayVec<u8, MAX_BYTES>) -> ArrayVec<u8, MAX_BYTES>
     copy
 }
 
-/// The bytes of a reply: empty unless it is the reply to a load.
+/// Returns the bytes of a reply with bytes or with a byte. Any other reply has none.
 pub fn bytes_of(reply: &RecordedReply) -> &[u8]
     ensures { result.now ≡ bytes_of (plain_reply reply.now) }
 {
@@ -76,7 +77,8 @@ pub fn bytes_of(reply: &RecordedReply) -> &[u8]
     }
 }
 
-/// The place of the first byte that differs, among the places that both have.
+/// Returns the first place at which two runs of bytes differ, among the places that both have. `None` if they don't
+/// differ at such a place.
 pub fn first_difference(one: &[u8], other: &[u8]) -> Option<usize>
     ensures { IsFirst one.now other.now result }
 {

@@ -7,7 +7,7 @@ use std::alloc::AllocError;
 pub enum CommandError {
     /// The reference memory refuses the command. Nothing has changed.
     Refused(Refusal),
-    /// An allocation failed. Some bytes may have been stored.
+    /// An allocation failed. The command may have had a part of its effect.
     Memory,
 }
 

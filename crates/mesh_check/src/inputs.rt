@@ -15,8 +15,8 @@ use std::alloc::Global;
 
 /// Judges the recorded history that is read from `input`.
 ///
-/// The input is read to its end, or until a verdict is found: nothing after the first rejected entry, or after the
-/// first fault, is looked at.
+/// The input is read to its end, or until a verdict or a fault is found. Nothing after the first rejected entry or the
+/// first fault is examined.
 ///
 /// Errors: Text if a line has a fault, Read if and only if the input failed, and Memory if an allocation failed. Write
 /// is never returned.
@@ -34,8 +34,8 @@ pub fn check<I: Source>(alloc: Global, input: &mut I) -> Result<Verdict, ReplayE
     judge_input(&mut history, &mut memory, input)
 }
 
-/// Judges the entries that are read from `input`, of which none has been read yet. Returns the verdict, with the errors
-/// of `check`.
+/// Judges the entries that are read from `input`. Requires that no entry has been read yet. Returns the verdict, with
+/// the errors of `check`.
 fn judge_input<I: Source>(
     history: &mut HistoryInput,
     memory: &mut Tracked,

@@ -25,8 +25,10 @@ use model_words::{MAX_BYTES, Refusal};
 use std::alloc::AllocError;
 
 impl Tracked {
-    /// Accepts the entry on a line, or returns the reason why the reference memory rejects it; then the memory is that
-    /// of no history. An error is an allocation failure.
+    /// Returns `None` if the reference memory accepts the entry on a line, and performs the entry. Otherwise returns
+    /// the reason why the reference memory rejects the entry. An error is an allocation failure.
+    ///
+    /// After a rejected entry or an error, the memory is no longer that of the entries before.
     pub fn judge(&mut self, line: u32, entry: &RecordedEntry) -> Result<Option<Reason>, AllocError>
         requires range { IsInRange (plain_command entry.now.command) }
         requires sized { IsSized (plain_command entry.now.command) }
@@ -54,7 +56,8 @@ impl Tracked {
         }
     }
 
-    /// Accepts a command other than `new` with its answer, or returns why the answer is wrong.
+    /// Accepts a command other than `new` with its answer and returns `None`, or returns the reason why the answer is
+    /// wrong. An error is an allocation failure.
     fn judge_answer(
         &mut self,
         line: u32,
@@ -81,7 +84,8 @@ impl Tracked {
         Ok(Some(difference(copied(reply), wanted, byte)))
     }
 
-    /// Runs a command other than `new`, and returns the answer of the reference memory.
+    /// Runs a command other than `new`, and returns the answer of the reference memory. An error is an allocation
+    /// failure.
     fn answer(&mut self, line: u32, command: &SpeltCommand) -> Result<RecordedReply, AllocError>
         requires range { IsInRange (plain_command command.now) }
         requires other { is_new (plain_command command.now) ≡ false }
@@ -161,7 +165,8 @@ impl Tracked {
         }
     }
 
-    /// Accepts a `new` with its answer, or returns why the answer is wrong.
+    /// Accepts a `new` with its answer and returns `None`, or returns the reason why the answer is wrong. An error is
+    /// an allocation failure.
     fn judge_new(
         &mut self,
         line: u32,
@@ -197,7 +202,8 @@ impl Tracked {
         }
     }
 
-    /// Makes an object with the serial and the address that it was given, or returns why it can't have them.
+    /// Makes an object with the serial and the address of the answer and returns `None`, or returns the reason why the
+    /// answer is wrong. An error is an allocation failure.
     fn judge_made(
         &mut self,
         line: u32,
@@ -239,8 +245,8 @@ impl Tracked {
     }
 }
 
-/// The reason why a `new` is rejected that was not answered with an object, or was answered with one and should not
-/// have been.
+/// Returns the reason to reject a `new` of `len` bytes whose answer is wrong: the answer isn't an object, or it is an
+/// object although `len` is 0.
 fn no_object(len: u64, answered: RecordedReply) -> Reason
     ensures { result ≡ no_object len answered }
 {
@@ -267,8 +273,7 @@ fn is_own_refusal(len: u64, refusal: Refusal) -> bool
     }
 }
 
-/// The answer to a command that changes the memory, from its outcome: done or refused. The error is an allocation
-/// failure.
+/// Returns the answer to a command that changes the memory: done or a refusal. An error is an allocation failure.
 fn done(outcome: Result<(), CommandError>) -> Result<RecordedReply, AllocError>
     ensures { IsTold outcome result }
 {

@@ -1,18 +1,19 @@
 //! Judges recorded histories by the reference memory (called plain memory in the code).
 //!
-//! `check` judges a history that is read from a device: either it is legal, or the entry on some line is the first that
-//! is rejected, and there is a reason.
+//! `check` judges a history that is read from a device. The verdict is that the history is legal, or the line of the
+//! first rejected entry and the reason.
 //!
-//! The modules from the bottom up: `chunks` and `sparse` keep the bytes of one object, of which only those that were
-//! stored take memory. `stored`, `maps`, `cells` and `memory` keep the reference memory of the entries so far in trees,
-//! `Tracked`, and run its commands; `faults` defines why a command changed nothing. `reasons` defines the reasons for a
-//! rejected entry, `differences` how two answers differ, and `judge` compares an entry with the answer of the reference
-//! memory.
+//! The modules, from the bottom up:
 //!
-//! `verdicts` defines the verdict, `inputs` finds it entry by entry, and `texts` has its line. `verdict_laws` states
-//! what a verdict means for the whole text.
+//! - `chunks` and `sparse` keep the bytes of one object. Only chunks in which a byte was stored take memory.
+//! - `stored`, `maps`, `cells` and `memory` keep the reference memory after the entries so far in trees (`Tracked`),
+//!   and run its commands. `faults` defines the errors of a command.
+//! - `reasons` defines the reasons for a rejected entry, and `differences` how two answers differ. `judge` compares an
+//!   entry with the answer of the reference memory.
+//! - `verdicts` defines the verdict, `inputs` finds it entry by entry, and `texts` writes its line. `verdict_laws`
+//!   states what a verdict means for the whole text.
 //!
-//! Contracts see a text as a list of bytes, and quantify over every memory that the trees represent.
+//! In contracts, a text is a list of bytes, and a clause about the trees holds for every memory that they represent.
 #![tactic(auto)]
 
 mod cells;

@@ -10,7 +10,8 @@ use crate::stored::Stored;
 use std::alloc::AllocError;
 use std::collections::BTreeMap;
 
-/// The number at the greatest address that is at most this one.
+/// Returns the number of the object with the greatest start address at or below this one. `None` if there is no such
+/// object.
 pub fn nearest(starts: &BTreeMap<u64, u32>, address: u64) -> Option<u32>
     ensures { IsNearest (get nat_cmp starts.now) address result }
 {
@@ -18,7 +19,8 @@ pub fn nearest(starts: &BTreeMap<u64, u32>, address: u64) -> Option<u32>
     Some(*number)
 }
 
-/// Stores bytes from an offset of an object on, for the entry on a line. An error is an allocation failure.
+/// Overwrites the bytes of an object that begin at offset `off`, for the entry on a line. An error is an allocation
+/// failure.
 pub fn store(
     objects: &mut BTreeMap<u32, Stored>,
     number: u32,
@@ -39,8 +41,8 @@ pub fn store(
     }
 }
 
-/// Sets the value of a number: an object under its own number, or the number that a cell holds. An error is an
-/// allocation failure.
+/// Maps a key to a value: the number of an object to the object, or a cell to the number that it holds. An error is an
+/// allocation failure; nothing changes then.
 pub fn set<T: Drop>(map: &mut BTreeMap<u32, T>, key: u32, value: T) -> Result<(), AllocError>
     ensures set { OnOk result (IsSetAt (get nat_cmp map.old) (get nat_cmp map.new) key (Some value)) }
     ensures unchanged { OnErr result (IsUnchanged map.old map.new) }

@@ -28,9 +28,11 @@ use std::collections::BTreeMap;
 
 /// The reference memory after the entries so far.
 ///
-/// Objects are numbered in the order in which they were made, and a cell holds the number of one. No live object has an
-/// address of another. Its memory depends on the live objects and on the number of ranges of serials and cells, not on
-/// the count of objects made.
+/// Objects are numbered in the order in which they were made. A cell holds the number of an object. Live objects don't
+/// overlap.
+///
+/// The memory that a `Tracked` takes depends on the live objects, on the cells, and on the number of ranges of used
+/// serials. It doesn't depend on the number of objects made.
 pub struct Tracked {
     /// The live objects by number.
     pub(crate) objects: BTreeMap<u32, Stored>,
@@ -40,7 +42,7 @@ pub struct Tracked {
     pub(crate) cells: Cells,
     /// The serials that were used.
     pub(crate) serials: NumberSet,
-    /// How many objects were made.
+    /// The number of objects made so far.
     pub(crate) made: u32,
     alloc: Global,
 }
@@ -51,7 +53,7 @@ impl Drop for Tracked {
 }
 
 impl Tracked {
-    /// Returns the memory before any entry. It allocates nothing.
+    /// Returns the memory before any entry. Nothing is allocated.
     pub fn new(alloc: Global) -> Tracked
         ensures stands { Stands result (nothing_recorded any_allocator) }
         ensures none { result.made ≡ 0 }
@@ -78,7 +80,8 @@ impl Tracked {
         }
     }
 
-    /// The live object of a cell's content, with its number. The error is FREED if the object is no longer live.
+    /// Returns the live object whose number a cell holds, with the number. The error is FREED if the object is no
+    /// longer live.
     fn object(&self, held: Held) -> Result<(u32, &Stored), Refusal>
         ensures live { IfOk result (λ found. get nat_cmp self.now.objects found.0 ≡ Some found.1.now) }
         ensures number { IfOk result (λ found. held ≡ Held.Number found.0) }
@@ -243,8 +246,7 @@ impl Tracked {
     }
 
     /// Copies `len` bytes from offset `from_off` of the object that `from` names to offset `to_off` of the object that
-    /// `to` names, for the entry on a line. If the two ranges overlap, each copied byte is the one that was there
-    /// before.
+    /// `to` names, for the entry on a line. If the two ranges overlap, the bytes from before the copy are copied.
     ///
     /// The error is the first that holds of EMPTY (either cell), FREED (either object) and OUTSIDE (either range), or
     /// else Memory.
@@ -270,8 +272,8 @@ impl Tracked {
         Ok(())
     }
 
-    /// The number of the object that a copy stores in, and the bytes that it stores. `to` and `from` are a cell and an
-    /// offset each.
+    /// Returns the number of the object that a copy changes, and the copied bytes. `to` and `from` are each a cell and
+    /// an offset. The error is the first of EMPTY, FREED and OUTSIDE that holds.
     fn copied(
         &self,
         to: (u32, u64),
@@ -296,7 +298,8 @@ impl Tracked {
         Ok((number, out_of.bytes.load(from.1, len)))
     }
 
-    /// A live object that has an address of the range. If there are several, the one with the greatest start.
+    /// Returns the live object that overlaps the range of `len` bytes from `address`. If there are several, it is the
+    /// one with the greatest start. `None` if no live object overlaps the range.
     pub fn overlapped(&self, address: u64, len: u64) -> Option<Overlap>
         requires some { 1 ≤ len }
         requires narrow { address < 2 ^ 48 }
@@ -323,8 +326,8 @@ impl Tracked {
         })
     }
 
-    /// Makes an object of `len` zeros at a vacant range, for the `new` on a line, and stores its number in `cell`. The
-    /// only error is an allocation failure.
+    /// Makes an object of `len` zeros at `address`, for the `new` on a line, and stores the object's number in `cell`.
+    /// The range of the object must be vacant. The only error is an allocation failure.
     pub fn make(
         &mut self,
         line: u32,

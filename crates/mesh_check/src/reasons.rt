@@ -6,9 +6,9 @@ use mesh_history::RecordedReply;
 pub enum Reason {
     /// The answer differs from the only one that the reference memory allows.
     Differs(Difference),
-    /// The answer to a `new` of one byte or more, which is neither an object nor a refusal of such a `new`.
+    /// The answer to a `new` of at least one byte is neither an object nor a refusal that such a `new` can get.
     NoObject(RecordedReply),
-    /// The command was refused, but the reference memory does it.
+    /// The recorded answer is a refusal, but the reference memory performs the command.
     LiveRefused(LiveRefusal),
     /// The serial was given to another object before.
     SerialAgain,
@@ -23,21 +23,21 @@ pub struct Difference {
     pub answered: RecordedReply,
     /// The answer of the reference memory.
     pub wanted: RecordedReply,
-    /// The first byte that differs, for a `get` or a `peek` of which both answers are bytes. `None` if no byte differs
-    /// that both have.
+    /// The first byte that differs, among those that both answers to a `get` or a `peek` have. `None` if there is no
+    /// such byte, or for another command.
     pub byte: Option<DifferentByte>,
 }
 
-/// A byte that differs from the one that was stored last.
+/// A byte of an answer that differs from the byte that was stored last.
 #[derive(Clone, Copy, PartialEq, Eq)]
 pub struct DifferentByte {
-    /// The offset in its object.
+    /// The offset of the byte in its object.
     pub offset: u64,
     /// The line of the last `put`, `poke` or `copy` that stored the byte. `None` if none did.
     pub stored_at: Option<u32>,
 }
 
-/// A refusal of a command that the reference memory does.
+/// A refusal of a command that the reference memory performs.
 #[derive(Clone, Drop, PartialEq, Eq)]
 pub struct LiveRefusal {
     /// The refusal.
@@ -51,7 +51,7 @@ pub struct LiveRefusal {
 pub struct Overlap {
     /// The serial of the live object.
     pub serial: u32,
-    /// The line of the `new` that made it.
+    /// The line of the `new` that made the live object.
     pub made_at: u32,
     /// The addresses of the new object.
     pub range: AddressRange,
@@ -59,7 +59,7 @@ pub struct Overlap {
     pub other: AddressRange,
 }
 
-/// The addresses of an object: from `from` on, below `to`.
+/// The addresses of an object, from `from` up to but not including `to`.
 #[derive(Clone, Copy, PartialEq, Eq)]
 pub struct AddressRange {
     /// The first address.

@@ -13,8 +13,8 @@ use std::marker::Model;
 #[cfg(test)]
 mod tests;
 
-/// The bytes of one object, and the line that last stored each. Bytes that were never stored are 0. They take no
-/// memory, except in a chunk in which some byte was stored.
+/// The bytes of one object, and for each byte the line that stored it last. Bytes that were never stored are 0. Only
+/// chunks in which some byte was stored take memory.
 #[derive(Drop)]
 pub struct SparseBytes {
     // How many bytes there are.
@@ -39,7 +39,7 @@ impl Model for SparseBytes {
 }
 
 impl SparseBytes {
-    /// Returns `len` zeros. It allocates nothing.
+    /// Returns `len` zeros. Nothing is allocated.
     pub fn new(alloc: Global, len: u64) -> Self
         ensures { result ≡ replicate len 0 }
     {
@@ -50,14 +50,14 @@ impl SparseBytes {
         }
     }
 
-    /// How many bytes there are.
+    /// The number of bytes.
     pub fn len(&self) -> u64
         ensures { result ≡ length self.now }
     {
         self.len
     }
 
-    /// Returns the `len` bytes from offset `start` on.
+    /// Returns the `len` bytes that begin at offset `start`.
     pub fn load(&self, start: u64, len: u32) -> ArrayVec<u8, MAX_BYTES>
         requires fits { start + len ≤ length self.now }
         requires few { len ≤ 32 }
@@ -69,7 +69,7 @@ impl SparseBytes {
         bytes
     }
 
-    /// Fills `out` with the bytes from offset `start` on.
+    /// Fills `out` with the bytes that begin at offset `start`.
     fn read(&self, start: u64, out: &mut [u8])
         requires fits { start + length out.old ≤ length self.now }
         requires few { length out.old ≤ 32 }
@@ -83,17 +83,18 @@ impl SparseBytes {
         }
     }
 
-    /// The line of the last entry that stored the byte at an offset. `None` if none did. No clause states this.
+    /// Returns the line of the last entry that stored the byte at an offset, or `None` if no entry did. No clause
+    /// states this.
     pub fn stored_at(&self, off: u64) -> Option<u32> {
         let (number, place) = chunk_and_place(off);
         stored_at(&self.chunks, number, place)
     }
 
-    /// Stores bytes from an offset on, for the entry on a line. Lines are numbered from 1.
+    /// Overwrites the bytes that begin at offset `start`, for the entry on a line. Lines are numbered from 1.
     ///
     /// The only error is an allocation failure. Then some of the bytes, from the first on, are stored, and all others
-    /// are unchanged. It comes only if a chunk of 64 bytes that the range touches had no byte stored before. No clause
-    /// states this, because the list of bytes doesn't show which chunks take memory.
+    /// are unchanged. The error comes only if the range touches a chunk of 64 bytes in which no byte was stored before.
+    /// No clause states this condition, because the list of bytes doesn't show which chunks take memory.
     pub fn store(&mut self, start: u64, bytes: &[u8], line: u32) -> Result<(), AllocError>
         requires fits { start + length bytes.now ≤ length self.old }
         requires few { length bytes.now ≤ 32 }
@@ -113,7 +114,7 @@ impl SparseBytes {
         self.store_run(number + 1, 0, rest, line)
     }
 
-    /// The `len` bytes of one chunk from `place` on.
+    /// Returns the `len` bytes of one chunk that begin at `place`.
     fn run(&self, number: u64, place: usize, len: usize) -> &[u8]
         requires one_chunk { place + len ≤ 64 }
         requires fits { number * 64 + place + len ≤ length self.now }
@@ -122,8 +123,8 @@ impl SparseBytes {
         &chunk_bytes(&self.chunks, number)[place..place + len]
     }
 
-    /// Stores bytes in one chunk, from a place in it on, for the entry on a line. The only error is an allocation
-    /// failure, and comes only for a chunk that was not kept (`store_in`).
+    /// Overwrites the bytes of one chunk that begin at `place`, for the entry on a line. The only error is an
+    /// allocation failure, which comes only if the chunk was not kept (`store_in`).
     fn store_run(
         &mut self,
         number: u64,
@@ -150,7 +151,7 @@ fn chunk_and_place(offset: u64) -> (u64, usize)
     (offset / chunk, (offset % chunk) as usize)
 }
 
-/// How many of `len` bytes from `place` on are in that place's chunk.
+/// Returns how many of the `len` bytes that begin at `place` are in that place's chunk.
 fn first_run(place: usize, len: usize) -> usize
     requires { place ≤ 64 }
     ensures within { result ≤ len }

@@ -40,7 +40,7 @@ impl Stored {
         self.address <= address && address - self.address < self.bytes.len()
     }
 
-    /// The object's addresses. The sum is exact: no object has an address of more than 64 bits.
+    /// Returns the object's addresses. The end is exact if it is less than 2^64, as it is for each object of a history.
     pub fn range(&self) -> AddressRange
         ensures from { result.from ≡ self.now.object.address }
         ensures range { self.now.object.address + length self.now.object.bytes < 2 ^ 64
@@ -52,7 +52,7 @@ impl Stored {
         }
     }
 
-    /// Whether the object ends after an address.
+    /// Whether the end of the object's range is above an address. The end itself is outside the range.
     pub fn ends_behind(&self, address: u64) -> bool
         ensures { result ≡ nat_lt address (self.now.object.address + length self.now.object.bytes) }
     {
@@ -69,7 +69,7 @@ impl Stored {
         address - self.address
     }
 
-    /// Whether the range of `len` bytes from `off` on ends past the object.
+    /// Whether the `len` bytes that begin at `off` end past the object.
     pub fn ends_outside(&self, off: u64, len: u32) -> bool
         ensures { result ≡ ends_outside self.now.object off len }
     {

@@ -21,7 +21,7 @@ too few bytes|history 1\n0 new 0 200 0 -> object 5 at 1000\n0 put 0 60 010203040
 too few bytes, the last of which differs|history 1\n0 new 0 200 0 -> object 5 at 1000\n0 put 0 60 0102030405060708 -> done\n0 poke 103f ff -> done\n1 copy 0 66 0 60 4 -> done\n0 get 0 60 3 -> bytes 0103\n|line 6: answer differs: bytes 0103, wanted bytes 010203; byte 61 was last stored at line 3#\
 no bytes|history 1\n0 new 0 200 0 -> object 5 at 1000\n0 put 0 60 0102030405060708 -> done\n0 poke 103f ff -> done\n1 copy 0 66 0 60 4 -> done\n0 get 0 60 3 -> done\n|line 6: answer differs: done, wanted bytes 010203";
 
-/// Histories with other wrong entries, in rows of the same form.
+/// Histories with other wrong entries. Each row has a name, a text and the line of its verdict.
 static WRONG: &str = "\
 a free of a freed object|history 1\n0 new 7 16 0 -> object 3 at 1000\n0 free 7 -> done\n0 free 7 -> done\n|line 4: answer differs: done, wanted refused 6 FREED#\
 another address|history 1\n0 new 7 16 0 -> object 3 at 1000\n0 addr 7 -> at 1001\n|line 3: answer differs: at 1001, wanted at 1000#\
@@ -34,15 +34,15 @@ an object that overlaps the end of another|history 1\n0 new 7 16 0 -> object 3 a
 an object around another|history 1\n0 new 7 16 0 -> object 3 at 1000\n0 new 9 1 0 -> object 4 at ff8\n0 new 8 64 0 -> object 5 at ff0\n|line 4: overlaps object 3, made at line 2: addresses ff0..1030 and 1000..1010#\
 an object within another|history 1\n0 new 7 16 0 -> object 3 at 1000\n0 new 9 8 0 -> object 4 at ff8\n0 new 8 1 0 -> object 5 at fff\n|line 4: overlaps object 4, made at line 3: addresses fff..1000 and ff8..1000";
 
-/// Legal histories in which cells are used again, in rows of the same form.
+/// Legal histories in which cells are used again. Each row has a name, a text and the line of its verdict.
 static CELLS: &str = "\
 a cell of a freed object|history 1\n0 new 7 16 0 -> object 3 at 1000\n0 free 7 -> done\n0 get 7 0 1 -> refused 6 FREED\n0 alias 8 7 -> refused 6 FREED\n0 get 8 0 1 -> refused 5 EMPTY\n|legal 5 entries#\
 a new object in a cell of a freed one|history 1\n0 new 7 16 0 -> object 3 at 1000\n0 free 7 -> done\n0 new 7 4 0 -> object 4 at 1000\n0 get 7 0 4 -> bytes 00000000\n0 free 7 -> done\n0 addr 7 -> refused 6 FREED\n|legal 6 entries#\
 an alias in a cell of a freed object|history 1\n0 new 7 16 0 -> object 3 at 1000\n0 new 8 4 0 -> object 4 at 2000\n0 free 7 -> done\n0 alias 7 8 -> done\n0 addr 7 -> at 2000\n0 free 7 -> done\n0 addr 8 -> refused 6 FREED\n0 new 8 4 0 -> object 5 at 2000\n0 addr 7 -> refused 6 FREED\n|legal 9 entries#\
 many cells of freed objects|history 1\n0 new 7 16 0 -> object 3 at 1000\n0 new 8 1 0 -> object 4 at 2000\n0 new 9 1 0 -> object 5 at 2001\n0 free 9 -> done\n0 free 7 -> done\n0 free 8 -> done\n0 copy 7 0 6 0 1 -> refused 5 EMPTY\n0 copy 7 0 9 0 1 -> refused 6 FREED\n0 new 8 1 0 -> object 6 at 2000\n0 copy 8 0 9 0 1 -> refused 6 FREED\n0 addr 7 -> refused 6 FREED\n|legal 11 entries";
 
-/// The histories of each kind. Every user of a table gets it here, so that only the proof of one function expands each
-/// table.
+/// Returns the table `LOADS`. Each table is used only through such a function, so that only the proof of that function
+/// expands the table.
 fn loads() -> &'static str {
     LOADS
 }
@@ -69,7 +69,7 @@ fn judges<R: AllocGlobal + Abort>(rt: &R, name: &str, text: &str, line: &str) {
     }
 }
 
-/// Asserts that the verdicts on the histories of a table have their lines.
+/// Asserts that the verdict on each history of a table has the line in its row.
 fn judges_all<R: AllocGlobal + Abort>(rt: &R, table: &str) {
     for row in table.split('#') {
         let mut fields = row.split('|');

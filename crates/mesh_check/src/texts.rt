@@ -77,7 +77,7 @@ fn add_answers(
     add_recorded(text, wanted)
 }
 
-/// Appends which byte differs, if it is known.
+/// Appends the offset of the byte that differs and the line that stored it. Appends nothing if there is no such byte.
 fn add_byte(text: &mut Vec<u8>, byte: Option<DifferentByte>) -> Result<(), AllocError>
     ensures { OnOk result (text.new.items ≡ text.old.items ++ byte_text byte) }
 {
@@ -91,7 +91,7 @@ fn add_byte(text: &mut Vec<u8>, byte: Option<DifferentByte>) -> Result<(), Alloc
     }
 }
 
-/// Adds which entry stored a byte.
+/// Appends the line of the entry that stored a byte last, or that no entry did.
 fn add_store(text: &mut Vec<u8>, stored_at: Option<u32>) -> Result<(), AllocError>
     ensures { OnOk result (text.new.items ≡ text.old.items ++ store_text stored_at) }
 {
@@ -104,7 +104,7 @@ fn add_store(text: &mut Vec<u8>, stored_at: Option<u32>) -> Result<(), AllocErro
     }
 }
 
-/// Adds which object is overlapped.
+/// Appends the overlapped object: its serial, and the line that made it.
 fn add_overlapped(text: &mut Vec<u8>, overlap: &Overlap) -> Result<(), AllocError>
     ensures { OnOk result (text.new.items ≡ text.old.items ++ overlapped_text overlap.now) }
 {
@@ -133,7 +133,7 @@ fn add_range(text: &mut Vec<u8>, range: AddressRange) -> Result<(), AllocError>
     add_address(text, range.to)
 }
 
-/// Adds an answer, as a recorded history has it. An error is an allocation failure.
+/// Appends an answer in the format of a recorded history. An error is an allocation failure.
 pub fn add_recorded(text: &mut Vec<u8>, reply: &RecordedReply) -> Result<(), AllocError>
     ensures { OnOk result (text.new.items ≡ text.old.items ++ recorded_text reply.now) }
 {

@@ -1,12 +1,12 @@
 //! Laws of verdicts. Each is the contract of a function that does nothing.
 ghost use Rattle.mesh_check.specs.VerdictLaws.{LegalIsLegal, VerdictsAreOne, WrongIsFirst};
 
-/// The verdict is `legal` for legal histories, and for no others.
+/// The verdict on a text is `legal` if and only if the text is a legal history.
 pub fn legal_is_legal()
     ensures { LegalIsLegal }
 {}
 
-/// If the verdict is a wrong entry, the entry is the first that is rejected.
+/// If the verdict names the line of a wrong entry, then this entry is the first that is rejected.
 pub fn wrong_is_first()
     ensures { WrongIsFirst }
 {}

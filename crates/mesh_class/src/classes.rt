@@ -1,4 +1,4 @@
-//! `Class`, and the class of a request.
+//! `Class`, and the choice of the class of a request.
 ghost use Rattle.std.specs.Prelude.{◌≡◌, ℕ, ◌<◌, ◌≤◌, ◌↔◌, ◌⊎◌, Err, Some, map, IfOk, OnOk, IfErr};
 ghost use Rattle.mesh_class.specs.Class.{class_index, size_at};
 ghost use Rattle.model_words.specs.Classes.{row, row_of, pages_of, slots_of, class_for, table, IsClass};
@@ -6,7 +6,7 @@ ghost use Rattle.model_words.specs.Classes.{row, row_of, pages_of, slots_of, cla
 use model_words::Refusal;
 use std::marker::Model;
 
-/// A size class. All slots of a class have one size, and all its spans have the same number of pages and of slots.
+/// A size class. All slots of a class have one size. All spans of a class have the same number of pages and of slots.
 #[derive(Clone, Copy, Debug, PartialEq, Eq)]
 pub struct Class {
     // The place in the class table.
@@ -36,7 +36,8 @@ impl Model for Class {
 }
 
 impl Class {
-    /// Returns the class with these values, which are one row of the class table.
+    /// Returns the class with these values. They must be one row of the class table, and `index` must be that row's
+    /// index.
     fn row(index: u32, size: u32, pages: u32, slots: u32) -> Class
         requires row { row_of size ≡ Some (row size pages slots) }
         requires index { class_index size ≡ index }
@@ -50,7 +51,7 @@ impl Class {
         }
     }
 
-    /// The class at a place of the class table. This function is the table in code.
+    /// Returns the class at an index of the class table. This function contains the table's numbers.
     #[tactic(auto, unfolding(crate::specs::Class::class_index))]
     fn at(index: u32) -> Class
         requires { index < 10 }
@@ -70,7 +71,7 @@ impl Class {
         }
     }
 
-    /// The place of the class in the table by size, 0 to 9.
+    /// Returns the index of the class, 0 to 9, in the table by ascending size.
     pub fn index(self) -> u32
         ensures value { result ≡ class_index self }
         ensures few { result < 10 }
@@ -79,7 +80,7 @@ impl Class {
         self.index
     }
 
-    /// The bytes of a slot, 16 to 2,048.
+    /// Returns the number of bytes of a slot, 16 to 2,048.
     pub fn size(self) -> u32
         ensures value { result ≡ self }
         ensures class { IsClass self }
@@ -87,7 +88,7 @@ impl Class {
         self.size
     }
 
-    /// The pages of a span, 1 or 3.
+    /// Returns the number of pages of a span, 1 or 3.
     pub fn pages(self) -> u32
         ensures value { result ≡ pages_of self }
         ensures class { IsClass self }
@@ -95,7 +96,7 @@ impl Class {
         self.pages
     }
 
-    /// The slots of a span, 2 to 256. They fill its pages.
+    /// Returns the number of slots of a span, 2 to 256. The slots fill the span's pages.
     pub fn slots(self) -> u32
         ensures value { result ≡ slots_of self }
         ensures class { IsClass self }
@@ -104,16 +105,16 @@ impl Class {
     }
 }
 
-/// The default is the least class. It only fills unused places.
+/// The default is the class of the smallest size. It only fills unused places.
 impl Default for Class {
     fn default() -> Class {
         Class::at(0)
     }
 }
 
-/// Returns the class of a request of `len` bytes: the least class whose size is at least `len`.
+/// Returns the class of a request of `len` bytes: the smallest class whose slots have at least `len` bytes.
 ///
-/// The error is ZERO if `len` is 0, and TOO_LARGE if it is above 2,048.
+/// The error is ZERO if `len` is 0, and TOO_LARGE if `len` is above 2,048.
 pub fn class_of(len: u32) -> Result<Class, Refusal>
     ensures least { IfOk result (λ class. class_for len ≡ Some class) }
     ensures some { OnOk result (1 ≤ len) }
@@ -138,7 +139,7 @@ pub fn class_of(len: u32) -> Result<Class, Refusal>
     }
 }
 
-/// The ten size classes, by size.
+/// Returns the ten size classes, by ascending size.
 pub fn all_classes() -> [Class; 10]
     ensures { result ≡ map (λ r. r.size) table }
 {

@@ -1,6 +1,6 @@
 //! Tests of the program's command line.
 //!
-//! The crate has no function of its own, so only its tests are proved.
+//! The crate contains only tests, so only tests are proved in it.
 #![tactic(auto)]
 
 #[cfg(test)]

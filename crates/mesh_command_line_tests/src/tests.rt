@@ -11,8 +11,8 @@ use std::process::Abort;
 /// Separates two rows of a table. Each row is a command line and what it asks for.
 const ROW_END: char = '#';
 
-/// Command lines that replay `a.job` or run its scripts in threads, and what each asks for: the numbers, and whether it
-/// prints answers or a history.
+/// Command lines that replay `a.job` or run its scripts in threads, and what each asks for: the numbers, and whether
+/// the run prints answers or a history.
 static PRINTED: &str = "\
 meshrun replay a.job|replay a.job answers#\
 meshrun threads a.job --probe 2 --rounds 3 --workers 4 --seed 5|threads a.job 2 3 4 5 1 answers#\
@@ -22,8 +22,8 @@ meshrun threads a.job --probe 2 --rounds 3 --workers 4 --seed 5 --history|thread
 meshrun threads --history a.job --probe 2 --rounds 3 --workers 4 --seed 5|threads a.job 2 3 4 5 1 history#\
 meshrun threads --probe=2 --rounds=3 --history --workers=4 --seed=5 --meshers=1 a.job|threads a.job 2 3 4 5 1 history";
 
-/// Command lines that judge a history, and what each asks for, in the same format: the file, and the most
-/// configurations of an object.
+/// Command lines that judge a history, and what each asks for: the file, and the greatest number of configurations of
+/// an object.
 static CHECKED: &str = "\
 meshrun check a.history|check a.history 100000#\
 meshrun check -|check - 100000#\
@@ -70,8 +70,11 @@ meshrun live --pages 1 --history 0 --workers 1|live 1 0 1#\
 meshrun live --workers=2|live 4096 65536 2#\
 meshrun live --history=65536 --pages=4096 --workers=64|live 4096 65536 64";
 
-/// Command lines that explore `a.job`, and what each asks for: the meshes, then their steps before a cancel, the most
-/// states, and the outcome that is printed, `-` if there is none.
+/// Command lines that explore `a.job`, and what each asks for. First come the meshes, the number of steps before a
+/// cancel (`-` for no cancel), and the limit of states.
+///
+/// Then comes what is printed: the number of an outcome, an answer with its line and phase, the file of the expected
+/// outcomes, or `-`. Patterns and progress come last, if they are asked for.
 static EXPLORED: &str = "\
 meshrun explore a.job --mesh 1:0|explore a.job 1:0 - 100000 -#\
 meshrun explore --mesh=1:0 a.job --mesh=3:2|explore a.job 1:0 3:2 - 100000 -#\
@@ -101,7 +104,7 @@ meshrun explore a.job --mesh 1:0 --progress --witness 3|explore a.job 1:0 - 1000
 meshrun explore a.job --mesh 9:0 --mesh 8:1 --mesh 7:2 --mesh 6:3 --mesh 5:4 --mesh 4:5 --mesh 3:6 --mesh 2:7 --mesh 1:8 --mesh 0:9|explore a.job 9:0 8:1 7:2 6:3 5:4 4:5 3:6 2:7 1:8 0:9 - 100000 -";
 
 /// Command lines that follow `a.history` on two heaps, and what each asks for: frees between two rounds, tries of a
-/// search, the seed (`-` if all words are 0), the first call, the last one, and whether it prints a table or a plot.
+/// search, the seed (`-` if all words are 0), the first call, the last call, and whether a table or a plot is printed.
 static FOLLOWED: &str = "\
 meshrun savings a.history|savings a.history 10000 64 1 1 4294967295 table#\
 meshrun savings -|savings - 10000 64 1 1 4294967295 table#\
@@ -112,7 +115,7 @@ meshrun savings a.history --every 1 --probe 0 --seed 0 --from 1 --to 1|savings a
 meshrun savings --every=4294967295 --seed=18446744073709551615 a.history --from=4294967295|savings a.history 4294967295 64 18446744073709551615 4294967295 4294967295 table#\
 meshrun savings a.history --seed 1 --svg|savings a.history 10000 64 1 1 4294967295 plot";
 
-/// Command lines with a fault. Each is of a command that takes numbers or a flag, or of a history.
+/// Faulty command lines of commands that take numbers, a flag or a history.
 static FAULTY: &str = "\
 meshrun threads a.job --probe 65 --rounds 3 --workers 4 --seed 5 --meshers 6\n\
 meshrun threads a.job --probe 2 --rounds 1001 --workers 4 --seed 5 --meshers 6\n\
@@ -240,7 +243,7 @@ meshrun savings a.history --svg=true\n\
 meshrun savings a.history --history\n\
 meshrun savings a.history --version";
 
-/// Words that aren't meshes, separated by `|`.
+/// Words that don't spell a mesh, separated by `|`.
 static NO_MESHES: &str =
     "|1|:|1:|:1|:0|1:2:3|1:0:|::|1::0|1 :0|1: 0| 1:0|+:1|1:+|++1:0|1:++0|+-1:0|1:-0|65536:0|1:65536|+65536:0|\
 99999999999999999999:0|0:18446744073709551616|0x1:0|1,0|1-0|a:0|1:0.0";
@@ -249,8 +252,8 @@ static NO_MESHES: &str =
 static USAGE: &str =
     "\n\nUsage: meshrun explore [OPTIONS] --mesh <SRC:DST> <FILE>\n\nFor more information, try '--help'.\n";
 
-/// Command lines of `explore` with faulty meshes, and the first word of each that is no mesh. If there is no such word,
-/// there are too many meshes.
+/// Command lines of `explore` with faulty meshes. The second field is the first word that doesn't spell a mesh. If the
+/// field is empty, there are too many meshes.
 static MESH_FAULTS: &str = "\
 meshrun explore a.job --mesh 1-0|1-0#\
 meshrun explore a.job --mesh=-1:0|-1:0#\
@@ -293,12 +296,12 @@ static APART: &str = "\
 meshrun savings a.history --seed 5 --first-fit\n\
 meshrun savings a.history --from 3 --to 2";
 
-/// The message of those command lines.
+/// The message of the command lines in `APART`.
 static APART_FAULT: &str =
     "error: --seed and --first-fit exclude each other, and --from is at most --to\n\n\
 Usage: meshrun savings [OPTIONS] <FILE>\n\nFor more information, try '--help'.\n";
 
-/// What a command line asks for, in the format of the tables.
+/// What a command line asks for, in the format of the tables. Panics if the command line is refused.
 fn asked(rt: &(impl Abort + AllocGlobal), line: &str) -> String {
     let words: Vec<&str> = line.split(' ').collect(rt.alloc()).expect(rt, "memory");
     match arguments(rt.alloc(), words.as_slice()) {
@@ -327,7 +330,7 @@ fn written(alloc: Global, parsed: &Parsed<'_>) -> Result<String, AllocError> {
     Ok(text)
 }
 
-/// Writes a run of a file's scripts in threads, with a word for what is printed.
+/// Writes a run of a file's scripts in threads, and the word `printed` for what the run prints.
 fn add_threads(
     text: &mut String,
     path: &str,
@@ -379,7 +382,7 @@ fn add_exploration(
     Ok(())
 }
 
-/// Writes what an exploration reports.
+/// Writes what an exploration reports: `-` for all outcomes.
 fn add_told(text: &mut String, told: &Told<'_>) -> Result<(), AllocError> {
     match told {
         Told::All => text.push_str(" -"),
@@ -405,7 +408,7 @@ fn add_savings(text: &mut String, path: &str, args: &SavingsArgs) -> Result<(), 
     text.push_str(if args.is_plot { " plot" } else { " table" })
 }
 
-/// Writes an optional number.
+/// Writes a number, or `-` if there is none.
 fn add_if_given(text: &mut String, number: Option<u32>) -> Result<(), AllocError> {
     match number {
         Some(number) => write!(text, " {number}"),
@@ -413,7 +416,7 @@ fn add_if_given(text: &mut String, number: Option<u32>) -> Result<(), AllocError
     }
 }
 
-/// Asserts what the command lines of a table ask for.
+/// Asserts that each command line of a table asks for what its row states.
 fn check_lines(rt: &(impl Abort + AllocGlobal), table: &str) {
     for row in table.split(ROW_END) {
         let (line, wanted) = row.split_once('|').expect(rt, "two fields");
@@ -446,7 +449,8 @@ fn refuses_faulty_numbers(rt: HostRuntime) {
     }
 }
 
-/// The message about meshes whose first faulty word is this one. Without a word, the message about too many meshes.
+/// The message about a first word that doesn't spell a mesh. If there is no such word, the message about too many
+/// meshes.
 fn fault_of_meshes(alloc: Global, unread: Option<&str>) -> Result<String, AllocError> {
     match unread {
         Some(word) => format!(in alloc;
@@ -469,8 +473,8 @@ fn check_fault(rt: &(impl Abort + AllocGlobal), words: &[&str], fault: &str) {
     }
 }
 
-/// Asserts that words are refused for their meshes: this word is the first that is no mesh, or, without a word, there
-/// are too many.
+/// Asserts that words are refused for their meshes. `unread` is the first word that doesn't spell a mesh, or `None` if
+/// there are too many meshes.
 fn check_mesh_fault(rt: &(impl Abort + AllocGlobal), words: &[&str], unread: Option<&str>) {
     let fault = fault_of_meshes(rt.alloc(), unread).expect(rt, "memory");
     check_fault(rt, words, fault.as_str());

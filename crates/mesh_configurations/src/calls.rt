@@ -1,10 +1,10 @@
-//! `Calls`, what the calls of an object do.
+//! `Calls`, the trait that defines how calls change the state of an object.
 ghost use Rattle.std.specs.Prelude.{◌≡◌, Option, IfOk};
 
 use mesh_pool::Value;
 use std::alloc::{AllocError, Global};
 
-/// How calls change the state of an object.
+/// The effects of calls on the state of an object.
 pub trait Calls {
     /// The state of an object between effects.
     type State: Value;
@@ -12,10 +12,11 @@ pub trait Calls {
     /// A call with its recorded answer.
     type Call: Drop;
 
-    /// The state after the effect of a call. `None` if the answer would differ from the recorded one.
+    /// The state after the effect of a call, or `None` if the call's answer would differ from the recorded answer.
     ghost effect: { Self.State → Self.Call → Option Self.State };
 
-    /// Returns the state after the effect of a call. `None` if the answer would differ from the recorded one.
+    /// Returns the state after the effect of a call. Returns `None` if the call's answer would differ from the recorded
+    /// answer.
     ///
     /// An error is an allocation failure.
     fn effect(
@@ -25,7 +26,7 @@ pub trait Calls {
     ) -> Result<Option<Self::State>, AllocError>
         ensures { IfOk result (λ next. next ≡ effect state.now call.now) };
 
-    /// A copy of a state. An error is an allocation failure.
+    /// Returns a copy of a state. An error is an allocation failure.
     fn copied(alloc: Global, state: &Self::State) -> Result<Self::State, AllocError>
         ensures { IfOk result (λ copy. copy ≡ state.now) };
 }

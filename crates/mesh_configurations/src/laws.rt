@@ -4,19 +4,23 @@ ghost use Rattle.mesh_configurations.specs.Placed.{JudgeExplains, JudgeTells};
 
 use crate::calls::Calls;
 
-/// A new judge can accept the events of a history if and only if some order of effects explains the history.
+/// A new judge can accept all events of a history if and only if some order of effects explains the history.
 pub fn judge_tells<O: Calls>()
     ensures { JudgeTells O.effect }
 {}
 
-/// A judge that has taken the events of a history has a configuration left if and only if some order of effects
+/// After a judge has taken all events of a history, a configuration is left if and only if some order of effects
 /// explains the history.
 pub fn judge_explains<O: Calls>()
     ensures { JudgeExplains O.effect }
 {}
 
-/// An order of calls respects time if and only if it contains each call that ended, and no call after one that began
-/// after it ended.
+/// Assume that no call ends before it begins, and that an order contains each call at most once. The order respects
+/// time if and only if three conditions hold:
+///
+/// - Each call of the order has begun.
+/// - Each call that ended is in the order.
+/// - If call A ended before call B began, B does not precede A in the order.
 pub fn time_is_pairwise()
     ensures { TimeIsPairwise }
 {}

@@ -1,8 +1,8 @@
-//! A judge of the overlapping calls of one object, which takes their begins and ends one at a time.
+//! A judge of the overlapping calls of one object, which takes the begins and ends of calls one at a time.
 //!
 //! The judge reports whether some order of effects explains the calls. A configuration is a state of the object,
-//! together with which of the pending calls have already had their effect. A judge keeps the configurations that the
-//! events so far allow, and forgets a call at its end.
+//! together with the set of the pending calls that have already had their effect. A judge keeps the configurations that
+//! the events so far allow, and forgets a call at the call's end.
 #![tactic(auto)]
 
 mod calls;

@@ -23,7 +23,7 @@ impl Value for Word {
     }
 }
 
-/// A store of a value, or a load that found it.
+/// A store of a value, or a load that found the value.
 #[derive(Clone, Copy)]
 struct Access {
     stores: bool,
@@ -75,15 +75,16 @@ impl Calls for Register {
     }
 }
 
-/// A call begins, or the call of a number ends.
+/// The begin of the next call, or the end of the call with a number. Calls are numbered from 0 in the order of their
+/// begins.
 #[derive(Clone, Copy)]
 enum Event {
     Begins(Access),
     Ends(usize),
 }
 
-/// Whether a judge has a configuration left after these events, `None` if it returned an error. At most `most`
-/// configurations may be met at an end.
+/// Whether a judge has a configuration left after these events. At most `most` configurations may be met at an end.
+/// Returns `None` if the judge returned an error, or if a call ends that isn't pending.
 fn judged(alloc: Global, events: &[Event], most: usize) -> Option<bool> {
     let mut judge = Judge::<Register>::new(alloc, Word { value: 0 }).ok()?;
     let mut places = Vec::new(alloc);
@@ -162,7 +163,7 @@ fn at_most_64_calls_are_pending(rt: HostRuntime) {
     assert_eq!(rt; judge.begin(load(0)).ok(), Some(7));
 }
 
-/// In how many of these configurations the word has a value.
+/// Returns the number of configurations in which the word has this value.
 fn count_of(configurations: &Pool<Configuration<Word>>, value: u64) -> usize {
     let mut count: usize = 0;
     for number in 0..configurations.len() {
@@ -173,8 +174,9 @@ fn count_of(configurations: &Pool<Configuration<Word>>, value: u64) -> usize {
     count
 }
 
-/// The refutation of a load of 9 at its end. Before it a store of 1 begins, and a store of 2 begins and ends. At most
-/// `most` configurations may be met. `None` if there is no refutation, or if the judge returned an error.
+/// Returns the refutation of a load of 9 at its end. Before the load, a store of 1 begins, and a store of 2 begins and
+/// ends. At most `most` configurations may be met. Returns `None` if no call is refuted, or if the judge returned an
+/// error.
 fn refuted_load(alloc: Global, most: usize) -> Option<Refutation<Register>> {
     let mut judge = Judge::<Register>::new(alloc, Word { value: 0 }).ok()?;
     let _open = judge.begin(store(1)).ok()?;
@@ -202,7 +204,7 @@ fn a_refuted_load_is_returned_with_the_states_that_were_met(rt: HostRuntime) {
     assert!(rt; refuted_load(rt.alloc(), 3).is_none());
 }
 
-/// An access with the numbers of the events at which it began and ended.
+/// An access, with the number of the event at which it began, and of the event at which it ended if it did.
 #[derive(Clone, Copy)]
 struct Timed {
     access: Access,
@@ -210,12 +212,12 @@ struct Timed {
     ended: Option<usize>,
 }
 
-/// Whether a call had its effect.
+/// Whether a call has had its effect.
 fn is_done(done: &[bool; 6], number: usize) -> bool {
     number < 6 && done[number]
 }
 
-/// Whether each call that ended had its effect.
+/// Whether each call that ended has had its effect.
 fn is_finished(calls: &[Timed], done: &[bool; 6]) -> bool {
     for (number, call) in calls.iter().enumerate() {
         if call.ended.is_some() && !is_done(done, number) {
@@ -225,7 +227,7 @@ fn is_finished(calls: &[Timed], done: &[bool; 6]) -> bool {
     true
 }
 
-/// Whether each call that ended before this event had its effect.
+/// Whether each call that ended before event `began` has had its effect.
 fn is_time(calls: &[Timed], done: &[bool; 6], began: usize) -> bool {
     for (number, call) in calls.iter().enumerate() {
         if let Some(ended) = call.ended
@@ -238,7 +240,7 @@ fn is_time(calls: &[Timed], done: &[bool; 6], began: usize) -> bool {
     true
 }
 
-/// The value of the word after an access. `None` if a load would find another value.
+/// Returns the value of the word after an access. Returns `None` if the access is a load that found another value.
 fn behind(value: u64, access: Access) -> Option<u64> {
     if access.stores || access.value == value {
         Some(access.value)
@@ -247,8 +249,8 @@ fn behind(value: u64, access: Access) -> Option<u64> {
     }
 }
 
-/// Whether the calls without an effect so far can have theirs in some order, starting from this value of the word: each
-/// one that ended, and any of the others, in at most `steps` steps.
+/// Whether the remaining calls can have their effects in some order, in at most `steps` steps, if the word now has this
+/// value. Each call that ended must have its effect, and the other calls may have theirs.
 fn has_order(calls: &[Timed], done: &[bool; 6], value: u64, steps: u8) -> bool {
     if is_finished(calls, done) {
         return true;
@@ -283,7 +285,7 @@ fn random(seed: &mut u64, bound: usize) -> usize
     (*seed >> 33) as usize % bound
 }
 
-/// A random history of at most 6 calls, as events and as calls in time.
+/// A random history of at most 6 calls: its events, its calls with their times, and the numbers of its pending calls.
 #[derive(Drop)]
 struct History {
     events: Vec<Event>,
@@ -291,7 +293,8 @@ struct History {
     open: Vec<usize>,
 }
 
-/// One event more. An error is an allocation failure.
+/// Adds a random event: a call begins, or a pending call ends. Adds nothing if all 6 calls have ended. An error is an
+/// allocation failure.
 fn add_event(history: &mut History, seed: &mut u64) -> Result<(), AllocError> {
     let now = history.events.len();
     if history.calls.len() < 6 && (history.open.is_empty() || random(seed, 2) == 0) {
@@ -319,7 +322,7 @@ fn add_event(history: &mut History, seed: &mut u64) -> Result<(), AllocError> {
     Ok(())
 }
 
-/// A random history. An error is an allocation failure.
+/// Returns a random history. An error is an allocation failure.
 fn random_history(alloc: Global, seed: &mut u64) -> Result<History, AllocError> {
     let mut history = History {
         events: Vec::new(alloc),

@@ -1,4 +1,4 @@
-//! Why a replay stops.
+//! `ReplayError`, the reason for which a replay stops.
 ghost use Rattle.std.specs.Prelude.{◌≡◌};
 ghost use Rattle.mesh_devices.specs.Faults.{replay_error_of};
 ghost use Rattle.mesh_devices.specs.declared.faults.ReplayError.{ReplayError};
@@ -8,20 +8,20 @@ use model_words::TextFault;
 use std::alloc::AllocError;
 use thiserror::Error;
 
-/// Why a replay stopped before the end of its plan's answers.
+/// The reason for which a replay stopped before all answers of its plan were written.
 #[derive(Clone, Copy, Debug, PartialEq, Eq, Error)]
 pub enum ReplayError {
-    /// The input failed, or returned more bytes than there was room for. Nothing was written.
+    /// A read failed, or returned a number of bytes above the length of its buffer. Nothing was written.
     #[error("read fault")]
     Read,
-    /// The output failed, took none of some bytes, or took more than there were. A beginning of the answers was
-    /// written.
+    /// A write failed, accepted none of some bytes, or returned a number of bytes above the number that it was given. A
+    /// beginning of the answers was written.
     #[error("write fault")]
     Write,
-    /// An allocation failed. The lines of a beginning of the plan were written, and never a part of a line.
+    /// An allocation failed. The answers to a beginning of the plan were written, and no part of a further line.
     #[error("out of memory")]
     Memory,
-    /// The text of the job has a fault; this is the first one. Nothing was written.
+    /// The first fault of the text of the job. Nothing was written.
     #[error("{0}")]
     Text(TextFault),
 }

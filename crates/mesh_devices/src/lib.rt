@@ -1,9 +1,9 @@
-//! The devices of a run, from which bytes are read and to which bytes are written, and why a run over them stops.
+//! The devices from which a run reads bytes and to which it writes bytes, and the errors that stop a run.
 //!
-//! `Source` and `Sink` are what a contract sees of a device: the bytes that it has left or that it took, if they are
-//! known, and whether one of its calls has failed. `read_some` is one call; `read_all` and `write_all` make all the
-//! calls that they need. `ReplayError` is why a run that reads a text from one device and writes to another stops
-//! before its end.
+//! A contract sees a device as a `Source` or a `Sink`: the bytes that the device has left or has accepted, if they are
+//! known, and whether a call of the device has failed. `read_some` makes one call. `read_all` and `write_all` make
+//! calls until the whole text is read or written. `ReplayError` is the reason for which a run that reads a text from
+//! one device and writes to another device stops before its end.
 #![tactic(auto)]
 
 mod devices;

@@ -1,4 +1,4 @@
-//! Reads texts to the end of their device.
+//! Reading a text to the end of its device.
 ghost use Rattle.std.specs.Prelude.{◌≡◌, ◌≤◌, false, true, Err, IfOk, OnOk, length, vec_len};
 ghost use Rattle.mesh_devices.specs.declared.faults.ReplayError.{ReplayError};
 ghost use Rattle.mesh_devices.specs.Transfer.{HasReadAll};
@@ -6,12 +6,12 @@ ghost use Rattle.mesh_devices.specs.Transfer.{HasReadAll};
 use crate::{ReplayError, Source, read_some};
 use std::alloc::{AllocError, Global};
 
-/// The most bytes of one read.
+/// The greatest number of bytes of one read.
 const READ_BYTES: usize = 16_384;
 
-/// Reads the input to its end.
+/// Reads the input to its end, and returns all bytes that were read.
 ///
-/// The error is `Read` if the input failed, and `Memory` if an allocation failed.
+/// The error is `Read` if a read failed, and `Memory` if an allocation failed.
 pub fn read_all<I: Source>(alloc: Global, input: &mut I) -> Result<Vec<u8>, ReplayError>
     requires { I.has_failed input.old ≡ false }
     ensures ok { OnOk result (I.has_failed input.new ≡ false) }
@@ -22,14 +22,15 @@ pub fn read_all<I: Source>(alloc: Global, input: &mut I) -> Result<Vec<u8>, Repl
     read_into(alloc, input, &mut room)
 }
 
-/// A buffer for the bytes of one read.
+/// Returns a buffer for the bytes of one read. An error is an allocation failure.
 fn room_to_read(alloc: Global) -> Result<Vec<u8>, AllocError>
     ensures { IfOk result (λ room. vec_len room ≡ 16384) }
 {
     vec![in alloc; 0; READ_BYTES]
 }
 
-/// Reads the input to its end, through this buffer.
+/// Reads the input to its end through the buffer `room`, and returns all bytes that were read. The error is `Read` if a
+/// read failed, and `Memory` if an allocation failed.
 fn read_into<I: Source>(
     alloc: Global,
     input: &mut I,

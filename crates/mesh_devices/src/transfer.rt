@@ -1,11 +1,12 @@
-//! Single calls of a device, and whole texts in all the calls that they need.
+//! Single calls of a device, and calls until a whole text is written.
 ghost use Rattle.std.specs.Prelude.{◌≡◌, ◌<◌, ◌≤◌, ◌||◌, false, length, take, is_err, IfOk, IfErr, OnOk, OnErr};
 ghost use Rattle.std.specs.Io.KnownBytes.{Appends, Consumes, IsAtEnd};
 ghost use Rattle.mesh_devices.specs.Transfer.{AppendsBeginning};
 
 use crate::{DeviceFault, ReplayError, Sink, Source};
 
-/// Makes one call that reads into the front of `buf`. Returns how many bytes it read.
+/// Makes one call that reads bytes into the front of `buf`. Returns the number of these bytes. The error is `Read` if
+/// the call failed.
 pub fn read_some<I: Source>(input: &mut I, buf: &mut [u8]) -> Result<usize, ReplayError>
     requires { I.has_failed input.old ≡ false }
     ensures within { IfOk result (λ count. count ≤ length buf.new) }
@@ -22,7 +23,8 @@ pub fn read_some<I: Source>(input: &mut I, buf: &mut [u8]) -> Result<usize, Repl
     }
 }
 
-/// Writes all the bytes, in all the calls that it takes. If a call fails, a beginning of the bytes was written.
+/// Writes all the bytes, by repeated calls of the output. If a call fails, returns an error. A beginning of the bytes
+/// was then written.
 pub fn write_all<O: Sink>(output: &mut O, bytes: &[u8]) -> Result<(), DeviceFault>
     ensures ok { OnOk result (Appends (O.written output.old) (O.written output.new) bytes.now) }
     ensures err { OnErr result (AppendsBeginning (O.written output.old) (O.written output.new) bytes.now) }
@@ -35,7 +37,8 @@ pub fn write_all<O: Sink>(output: &mut O, bytes: &[u8]) -> Result<(), DeviceFaul
     Ok(())
 }
 
-/// Writes lines of text. The error is `Write` if the output failed; then a beginning of the lines was written.
+/// Writes lines of text. The error is `Write` if a call of the output failed. A beginning of the lines was then
+/// written.
 pub fn write_lines<O: Sink>(output: &mut O, lines: &[u8]) -> Result<(), ReplayError>
     requires { O.has_failed output.old ≡ false }
     ensures ok { OnOk result (Appends (O.written output.old) (O.written output.new) lines.now) }
@@ -46,7 +49,8 @@ pub fn write_lines<O: Sink>(output: &mut O, lines: &[u8]) -> Result<(), ReplayEr
     write_all(output, lines).map_err(|_| ReplayError::Write)
 }
 
-/// Makes one call that writes bytes. Returns how many it took.
+/// Makes one call that writes bytes. Returns the number of bytes that the output accepted. If the call failed, returns
+/// an error.
 fn write_some<O: Sink>(output: &mut O, bytes: &[u8]) -> Result<usize, DeviceFault>
     requires { 0 < length bytes.now }
     ensures some { IfOk result (λ count. 0 < count) }

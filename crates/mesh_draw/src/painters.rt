@@ -11,7 +11,7 @@ use mesh_picture::{Drawn, Header, Measure, Picture, Text};
 use model_words::Version;
 use std::alloc::{AllocError, Global};
 
-/// The painter that measures how large a picture is. It draws nothing.
+/// The painter that measures the size of a picture. It draws nothing.
 #[derive(Drop)]
 pub(crate) struct Measuring {
     measure: Measure,
@@ -27,15 +27,15 @@ impl Measuring {
         }
     }
 
-    /// The number of the line whose point it takes next.
+    /// The number of the line whose point the painter takes next.
     pub fn next_line(&self) -> usize
         ensures { result ≡ next_measured self.now }
     {
         self.measure.next_line()
     }
 
-    /// The picture of the measured job, before its first point, which is the one after line `first`. An error is an
-    /// allocation failure.
+    /// Returns the picture of the measured job, with no point drawn yet. Its first point is the one after line `first`.
+    /// An error is an allocation failure.
     pub fn picture(
         self,
         alloc: Global,
@@ -79,14 +79,14 @@ impl Painter for Measuring {
     }
 }
 
-/// The painter that draws.
+/// The painter that draws a picture.
 #[derive(Drop)]
 pub(crate) struct Drawing {
     picture: Picture,
 }
 
 impl Drawing {
-    /// Creates a painter that draws this picture. The text before the first frame is added to `text`.
+    /// Creates a painter that draws this picture. Adds the text before the first frame to `text`.
     pub fn new(picture: Picture, text: &mut Text) -> Drawing
         ensures next { next_drawn result ≡ picture }
         ensures begins { text.old ≡ Some [] → IfSome text.new (Begins (codes "<svg")) }
@@ -95,7 +95,7 @@ impl Drawing {
         Drawing { picture }
     }
 
-    /// The number of the line whose point it takes next.
+    /// The number of the line whose point the painter takes next.
     pub fn next_line(&self) -> usize
         ensures { result ≡ next_drawn self.now }
     {
@@ -116,7 +116,7 @@ impl Painter for Drawing {
     }
 }
 
-/// A sink for the drawing of a painter that only measures: it keeps nothing.
+/// A sink that keeps nothing, for the painter that only measures.
 #[derive(Drop)]
 pub(crate) struct Nowhere;
 

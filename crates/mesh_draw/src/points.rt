@@ -14,14 +14,13 @@ use mesh_picture::{Frame, Line, Text};
 use mesh_text::{Turns, add_command, add_decimal, add_plan_line};
 use std::alloc::{AllocError, Global};
 
-/// No plan has more lines: a job file has at most 1 MiB.
+/// A bound on the number of lines of a plan: a job file has at most 1 MiB.
 pub(crate) const MAX_LINES: usize = 1_048_576;
 
-/// How many bytes of a picture are buffered before they are written.
+/// The number of buffered bytes of a picture from which the buffer is written.
 const CHUNK_BYTES: usize = 8192;
 
-/// What to show after a line of a job's plan: the line with its answer as a replay prints it, and the heap at that
-/// point.
+/// The point after a line of a job's plan: the line with its answer as a replay prints it, and the heap after the line.
 #[derive(Clone, Copy)]
 pub(crate) struct Point<'a> {
     pub job: &'a Job,
@@ -31,10 +30,10 @@ pub(crate) struct Point<'a> {
 
 /// A consumer of the points of a plan.
 pub(crate) trait Painter {
-    /// The number of the line whose point it takes next.
+    /// The number of the line whose point the painter takes next.
     ghost next: { Self → ℕ };
 
-    /// Takes the point after the next line, and adds the drawing of it to `text`. An error is an allocation failure.
+    /// Takes the point after the next line, and adds the point's drawing to `text`. An error is an allocation failure.
     fn point(&mut self, point: &Point<'_>, text: &mut Text) -> Result<(), AllocError>
         requires few { point.now.line.now.number ≤ 1048576 }
         requires next { point.now.line.now.number ≡ next self.old }
@@ -43,8 +42,8 @@ pub(crate) trait Painter {
         ensures { OnOk result (next self.new ≡ next self.old + 1) };
 }
 
-/// Plays a job's plan up to line number `to`, and passes each point from the one after line `from` on to a painter. The
-/// drawing is written in pieces.
+/// Plays a job's plan up to line number `to`, and passes the points after the lines `from` to `to` to a painter. The
+/// drawing is written in pieces. What is then left in `text` isn't written yet.
 ///
 /// The error is Memory if an allocation failed, and Write if the output failed.
 pub(crate) fn show_points<P: Painter, O: Sink>(
@@ -80,15 +79,15 @@ pub(crate) fn show_points<P: Painter, O: Sink>(
     Ok(())
 }
 
-/// How many lines of a job's plan have a number of at most `to`.
+/// The number of lines of a job's plan whose line number is at most `to`.
 fn lines_up_to(job: &Job, to: usize) -> usize
     ensures { result ≡ min to (length job.now.plan) }
 {
     to.min(job.plan.lines().len())
 }
 
-/// Plays the line of a plan at a place, counted from 0, and passes the point after it to the painter, unless it is
-/// before line `from`.
+/// Plays the line of a plan at a place, counted from 0. Passes the point after this line to the painter, unless the
+/// line comes before line `from`. An error is an allocation failure.
 fn show_point<P: Painter>(
     alloc: Global,
     job: &Job,
@@ -127,8 +126,8 @@ fn show_point<P: Painter>(
     painter.point(&point, text)
 }
 
-/// The caption of the line of a plan at a place, counted from 0. For a worker's line it includes the attempted command.
-/// An error is an allocation failure.
+/// Returns the caption of the line of a plan at a place, counted from 0. The caption of a worker's line includes the
+/// attempted command. An error is an allocation failure.
 fn caption_at(alloc: Global, job: &Job, turns: &Turns, place: usize) -> Result<Vec<u8>, AllocError>
     requires within { place < length job.now.plan }
     requires stands { StandsBehind job.now place turns.now }
@@ -149,7 +148,7 @@ fn caption_at(alloc: Global, job: &Job, turns: &Turns, place: usize) -> Result<V
     }
 }
 
-/// Adds `worker W`, and the command that it attempts. An error is an allocation failure.
+/// Appends `worker W`, and the command that the worker attempts, if there is one. An error is an allocation failure.
 fn add_attempt(text: &mut Vec<u8>, worker: u32, command: Option<Command>) -> Result<(), AllocError>
     ensures { OnOk result (text.new.items ≡ text.old.items ++ attempt_text worker command) }
 {
@@ -164,8 +163,8 @@ fn add_attempt(text: &mut Vec<u8>, worker: u32, command: Option<Command>) -> Res
     }
 }
 
-/// Writes the buffered text of a picture, and empties the buffer. Memory comes only if an allocation for the text
-/// failed; then nothing was written.
+/// Writes the buffered text of a picture, and empties the buffer. The error is Memory if an allocation for the text
+/// failed; then nothing was written. The error is Write if the output failed.
 pub(crate) fn write_out<O: Sink>(output: &mut O, text: &mut Text) -> Result<(), ReplayError>
     requires { O.has_failed output.old ≡ false }
     ensures wrote { OnOk result

@@ -12,23 +12,23 @@ use mesh_picture::{Picture, Text};
 use mesh_text::{Job, read_job};
 use std::alloc::Global;
 
-/// What a picture shows, and how.
+/// The options of a picture: what it shows, and how.
 #[derive(Clone, Copy)]
 pub struct DrawOptions<'a> {
     /// The title above the picture: the name of the job file.
     pub title: &'a str,
     /// The number of the first line of the plan whose point is shown, counted from 1.
     pub from: u32,
-    /// The number of the last one. Lines past the plan's end are ignored.
+    /// The number of the last line of the plan whose point is shown. Lines past the plan's end are ignored.
     pub to: u32,
-    /// How many frames are side by side. 0 means the number that fits.
+    /// The number of frames that are side by side. 0 is the number that fits.
     pub columns: u32,
 }
 
 /// Reads a job file from the input and draws the job as one SVG file.
 ///
-/// The plan is played twice: once to measure the picture, and once to draw it, in pieces as its frames come. The error
-/// is Read if the input failed, and Text if the input is no job file; nothing was written then. It is Memory if an
+/// The plan is played twice: once to measure the picture, and once to draw and write it in pieces. The error is Read if
+/// the input failed, and Text if the input is no job file; nothing was written then. The error is Memory if an
 /// allocation failed, and Write if the output failed.
 pub fn draw<I: Source, O: Sink>(
     alloc: Global,
@@ -59,12 +59,13 @@ struct Shown {
     drawn: usize,
 }
 
-/// When a picture was drawn, both painters took each point that its options ask for.
+/// States by its requirement that, once a picture is drawn, both painters took each point that the options ask for. The
+/// function does nothing.
 fn all_shown(job: &Job, options: &DrawOptions<'_>, shown: &Shown)
     requires { AreShown job.now options.now.from options.now.to shown.now }
 {}
 
-/// Draws a job.
+/// Draws a job and writes the picture. The error is Memory if an allocation failed, and Write if the output failed.
 fn paint<O: Sink>(
     alloc: Global,
     job: &Job,
@@ -88,7 +89,8 @@ fn paint<O: Sink>(
     Ok(Shown { measured, drawn })
 }
 
-/// Returns the painter that took and measured each point after the lines `from` to `to`.
+/// Returns a painter that has measured each point after the lines `from` to `to`. The error is Memory if an allocation
+/// failed.
 fn measured(alloc: Global, job: &Job, from: usize, to: usize) -> Result<Measuring, ReplayError>
     requires some { 1 ≤ from }
     requires few { to ≤ 1048576 }

@@ -10,10 +10,10 @@ use mesh_picture::{Counts, Frame, Home, Mapping, Member, Object, RunningMesh};
 use mesh_steps::Heap;
 use std::alloc::{AllocError, Global};
 
-/// The most members of a group.
+/// The greatest number of members of a group.
 const MAX_MEMBERS: usize = 8;
 
-/// The most meshes that run at once.
+/// The greatest number of meshes that run at once.
 const MAX_MESHES: usize = 10;
 
 /// The frame of a heap: what a picture shows of it. An error is an allocation failure.
@@ -34,7 +34,7 @@ pub fn frame_of(alloc: Global, heap: &Heap) -> Result<Frame, AllocError>
     Ok(frame)
 }
 
-/// Adds the contents of a group, if it exists.
+/// Adds the contents of a group, if the group exists.
 fn add_group(frame: &mut Frame, heap: &Heap, group: u32) -> Result<(), AllocError>
     ensures { OnOk result (AddsGroup heap.now group frame.old frame.new) }
 {
@@ -62,7 +62,7 @@ fn add_members(
     Ok(())
 }
 
-/// The member of a group at a place.
+/// The member of a group at a place, or `None` if no member is there.
 fn member_at(heap: &Heap, group: u32, class: Class, place: usize) -> Option<Member>
     ensures { result ≡ member_row heap.now group class place }
 {
@@ -89,7 +89,7 @@ fn add_leads(
     Ok(())
 }
 
-/// Adds the mappings of the pages of a member, if it exists.
+/// Adds the mappings of the pages of a member, if there is a member.
 fn add_member_leads(
     rows: &mut Vec<Mapping>,
     heap: &Heap,
@@ -123,7 +123,7 @@ fn add_objects(
     Ok(())
 }
 
-/// Adds the objects of the member at a place of a group, if it exists.
+/// Adds the objects of the member at a place of a group, if that member exists.
 fn add_member_objects(
     rows: &mut Vec<Object>,
     heap: &Heap,
@@ -144,7 +144,8 @@ fn add_member_objects(
     Ok(())
 }
 
-/// The object in a slot of the member at a place of a group. The member begins at virtual page `member`.
+/// The object in a slot of the member at a place of a group, or `None` if no object is there. The member begins at
+/// virtual page `member`.
 fn object_at(heap: &Heap, group: u32, place: usize, member: u32, slot: u32) -> Option<Object>
     ensures { result ≡ object_row heap.now group place member slot }
 {
@@ -167,7 +168,7 @@ fn add_homes(rows: &mut Vec<Home>, heap: &Heap, group: u32, class: Class) -> Res
     Ok(())
 }
 
-/// The physical page at a place of a group.
+/// The physical page at a place of a group, or `None` if no page is there.
 fn home_at(heap: &Heap, group: u32, place: u32) -> Option<Home>
     ensures { result ≡ home_row heap.now group place }
 {
@@ -191,7 +192,7 @@ fn meshes_of(alloc: Global, heap: &Heap) -> Result<Vec<RunningMesh>, AllocError>
     Ok(rows)
 }
 
-/// The running mesh at a place.
+/// The running mesh at a place, or `None` if no mesh is there.
 fn mesh_at(heap: &Heap, place: usize) -> Option<RunningMesh>
     ensures { result ≡ option_map mesh_row (slice_get (table_of heap.now).meshes place) }
 {

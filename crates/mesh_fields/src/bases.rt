@@ -1,11 +1,11 @@
-//! Digits of the two bases in which fields spell numbers.
+//! The digits of the two bases in which fields spell numbers.
 ghost use Rattle.std.specs.Prelude.{◌≡◌, ◌+◌, ◌*◌, ◌≤◌, ◌^◌, ◌⊎◌, true, false, IfSome, IsNone};
 ghost use Rattle.std.specs.List.{list_all};
 ghost use Rattle.mesh_fields.specs.Bases.{digit_value, is_digit, radix, value_in};
 
 use crate::hex;
 
-/// The base of a field's digits.
+/// The base of the digits of a field.
 #[derive(Clone, Copy)]
 pub enum Base {
     /// Digits from 0 to 9.
@@ -15,7 +15,7 @@ pub enum Base {
 }
 
 impl Base {
-    /// How many digits the base has.
+    /// Returns the number of digits of the base.
     #[inline]
     pub fn radix(self) -> u64
         ensures { result ≡ radix self }
@@ -26,7 +26,7 @@ impl Base {
         }
     }
 
-    /// The value of a digit of the base.
+    /// Returns the value of a digit of the base. Returns `None` if the byte is no such digit.
     #[inline]
     pub fn digit(self, byte: u8) -> Option<u8>
         ensures { result ≡ digit_value self byte }
@@ -37,7 +37,8 @@ impl Base {
         }
     }
 
-    /// The value of digits of the base. `None` if another byte is among them, or if the value doesn't fit 64 bits.
+    /// Returns the value of digits of the base. Returns `None` if some byte is no such digit, or if the value doesn't
+    /// fit 64 bits.
     #[inline]
     pub fn value_of(self, digits: &[u8]) -> Option<u64>
         ensures digits { IfSome result (λ value. list_all (is_digit self) digits.now ≡ true) }
@@ -54,7 +55,7 @@ impl Base {
     }
 }
 
-/// The value of a decimal digit.
+/// Returns the value of a decimal digit. Returns `None` if the byte is no decimal digit.
 #[inline]
 fn decimal_digit(byte: u8) -> Option<u8>
     ensures { result ≡ digit_value Base.Decimal byte }
@@ -65,7 +66,7 @@ fn decimal_digit(byte: u8) -> Option<u8>
     }
 }
 
-/// A number with one more digit at its end. `None` if it doesn't fit 64 bits.
+/// Returns the number with one more digit at its end. Returns `None` if this number doesn't fit 64 bits.
 #[inline]
 fn with_digit(number: u64, radix: u64, digit: u8) -> Option<u64>
     ensures some { IfSome result (λ longer. longer ≡ number * radix + digit) }

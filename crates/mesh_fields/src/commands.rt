@@ -1,4 +1,4 @@
-//! The commands of lines, in job files and in recorded histories: the fields of each, from left to right.
+//! The commands of lines, in job files and in recorded histories: the fields of each command, from left to right.
 ghost use Rattle.std.specs.Prelude.{◌≡◌, ◌≤◌, IfOk};
 ghost use Rattle.model_jobs.specs.JobFiles.{addr_in, alias_in, copy_in, count_in, free_in, get_in, new_in, peek_in, poke_in, put_in, ruled_command_in};
 ghost use Rattle.mesh_fields.specs.Commands.{IsReadAs, most_cell, most_place, most_size, rules_of, wide_in};
@@ -13,26 +13,26 @@ use model_words::{FaultKind, MAX_BYTES, Version};
 /// The greatest cell of a job.
 const MAX_CELL: u32 = 255;
 
-/// The greatest length of a `new` in a job, and the greatest offset of its other commands.
+/// The greatest length of a `new` in a job file, and the greatest offset of any other command there.
 const MAX_LENGTH: u64 = 65_535;
 
 /// The greatest length and offset in a recorded history: 2^47.
 pub const MAX_RECORDED_LENGTH: u64 = 140_737_488_355_328;
 
-/// The most bytes that one command loads or copies.
+/// The greatest number of bytes that one command loads or copies.
 const MAX_COUNT: u32 = 32;
 
-/// The text that a command's line is in. It determines the ranges of the line's numbers.
+/// The kind of text that contains a command's line. The kind determines the ranges of the line's numbers.
 #[derive(Clone, Copy)]
 pub enum Dialect {
-    /// A job file of this version: cells up to 255, lengths and offsets up to 65,535, addresses up to fffffff, and
-    /// `copy` from version 2 on.
+    /// A job file of this version: cells up to 255, lengths and offsets up to 65,535, and addresses up to 0xfffffff.
+    /// `copy` is allowed only in version 2.
     Job(Version),
     /// A recorded history: cells of 32 bits, lengths and offsets up to 2^47, addresses of 48 bits.
     History,
 }
 
-/// The command of a line, wide enough for any text.
+/// The command of a line, with numbers wide enough for each kind of text.
 ///
 /// A length or an offset is at most 2^47. An offset counts bytes from the object's start. `Put`, `Get` and `Copy`
 /// store, load or copy 1 to 32 bytes. An address has at most 48 bits.
@@ -44,27 +44,27 @@ pub enum SpeltCommand {
     Put(u32, u64, ArrayVec<u8, MAX_BYTES>),
     /// `Get(cell, off, len)`: load `len` bytes from offset `off` of the object that `cell` names.
     Get(u32, u64, u32),
-    /// `Free(cell)`: free the object that `cell` names. The cell keeps its reference, which is stale from then on.
+    /// `Free(cell)`: free the object that `cell` names. The cell keeps its reference, which is stale afterwards.
     Free(u32),
     /// `Alias(to, from)`: store in `to` the reference that `from` holds.
     Alias(u32, u32),
-    /// `Addr(cell)`: the address of the object that `cell` names.
+    /// `Addr(cell)`: return the address of the object that `cell` names.
     Addr(u32),
-    /// `Peek(addr)`: load the byte at an address.
+    /// `Peek(addr)`: load the byte at address `addr`.
     Peek(u64),
-    /// `Poke(addr, byte)`: store a byte at an address.
+    /// `Poke(addr, byte)`: store `byte` at address `addr`.
     Poke(u64, u8),
     /// `Copy(to, to_off, from, from_off, len)`: copy `len` bytes from offset `from_off` of the object that `from` names
-    /// to offset `to_off` of the object that `to` names. If the two ranges overlap, each copied byte is the one that
-    /// was there before the copy.
+    /// to offset `to_off` of the object that `to` names. The two ranges may overlap: all bytes are read before any is
+    /// written.
     Copy(u32, u64, u32, u64, u32),
 }
 
 /// Returns the command of a line with this word and these fields.
 ///
-/// The error is WORD if the text has no such command, or if it has another number of fields. Otherwise it is the
-/// leftmost fault: NUMBER if a number or an address is misspelt or out of its range, HEX if bytes are misspelt or have
-/// a wrong length.
+/// The error is WORD if this kind of text has no command with this word, or if the number of fields is wrong. Otherwise
+/// the leftmost field with a fault determines the error. It is NUMBER if a number or an address is misspelt or out of
+/// its range, and HEX if bytes are misspelt or have a wrong length.
 pub fn command_of(
     dialect: Dialect,
     word: &[u8],
@@ -95,14 +95,15 @@ pub fn command_of(
     }
 }
 
-/// Reads a cell or a serial of a recorded history, of 32 bits. The error is NUMBER for anything else.
+/// Reads a cell or a serial of a recorded history: a decimal number of at most 32 bits. The error is NUMBER if the
+/// field is anything else.
 pub fn wide(field: &[u8]) -> Result<u32, FaultKind>
     ensures { result ≡ wide_in field.now }
 {
     number32(field, 0, u32::MAX)
 }
 
-/// Reads how many bytes are loaded or copied: 1 to 32. The error is NUMBER for anything else.
+/// Reads the number of bytes that are loaded or copied, 1 to 32. The error is NUMBER if the field is anything else.
 fn count(field: &[u8]) -> Result<u32, FaultKind>
     ensures value { result ≡ count_in field.now }
     ensures some { IfOk result (λ count. 1 ≤ count) }
@@ -112,7 +113,7 @@ fn count(field: &[u8]) -> Result<u32, FaultKind>
 }
 
 impl Dialect {
-    /// Whether `copy` is a command of the text.
+    /// Whether this kind of text has the command `copy`.
     fn has_copy(self) -> bool
         ensures { result ≡ (rules_of self).has_copy }
     {
@@ -122,7 +123,7 @@ impl Dialect {
         }
     }
 
-    /// Reads a root cell. The error is NUMBER for anything else.
+    /// Reads a root cell. The error is NUMBER if the field is anything else.
     fn cell(self, field: &[u8]) -> Result<u32, FaultKind>
         ensures value { result ≡ (rules_of self).cell field.now }
         ensures most { IfOk result (λ cell. cell ≤ most_cell self) }
@@ -133,7 +134,7 @@ impl Dialect {
         }
     }
 
-    /// Reads a length or an offset. The error is NUMBER for anything else.
+    /// Reads a length or an offset. The error is NUMBER if the field is anything else.
     fn size(self, field: &[u8]) -> Result<u64, FaultKind>
         ensures value { result ≡ (rules_of self).size field.now }
         ensures most { IfOk result (λ size. size ≤ most_size self) }
@@ -144,7 +145,7 @@ impl Dialect {
         }
     }
 
-    /// Reads an address. The error is NUMBER for anything else.
+    /// Reads an address. The error is NUMBER if the field is anything else.
     fn place(self, field: &[u8]) -> Result<u64, FaultKind>
         ensures value { result ≡ (rules_of self).place field.now }
         ensures most { IfOk result (λ place. place ≤ most_place self) }

@@ -8,14 +8,14 @@ use crate::bases::Base;
 use arrayvec::ArrayVec;
 use model_words::{FaultKind, MAX_BYTES};
 
-/// The greatest address of a job, the last byte of the last virtual page.
+/// The greatest address of a job: the address of the last byte of the last virtual page.
 const MAX_ADDRESS: u64 = 0xfff_ffff;
 
 /// The greatest address of 48 bits.
 const MAX_WIDE_ADDRESS: u64 = 0xffff_ffff_ffff;
 
-/// The value of each byte as a hexadecimal digit in lower case, or 16 if it is none. The digits of a text are
-/// unpredictable, so reading them must not branch on which digits they are.
+/// For each byte, its value as a hexadecimal digit in lower case, or 16 if the byte is no such digit. The digits of a
+/// text are unpredictable, so the reader looks them up instead of branching on them.
 static VALUES: [u8; 256] = [
     16, 16, 16, 16, 16, 16, 16, 16, 16, 16, 16, 16, 16, 16, 16, 16, 16, 16, 16, 16, 16, 16, 16, 16,
     16, 16, 16, 16, 16, 16, 16, 16, 16, 16, 16, 16, 16, 16, 16, 16, 16, 16, 16, 16, 16, 16, 16, 16,
@@ -30,7 +30,7 @@ static VALUES: [u8; 256] = [
     16, 16, 16, 16, 16, 16, 16, 16, 16, 16, 16, 16, 16, 16,
 ];
 
-/// The value of a hexadecimal digit in lower case.
+/// Returns the value of a hexadecimal digit in lower case. Returns `None` if the byte is no such digit.
 #[inline]
 pub fn digit(byte: u8) -> Option<u8>
     ensures value { result ≡ hex_value byte }
@@ -40,7 +40,8 @@ pub fn digit(byte: u8) -> Option<u8>
     if value < 16 { Some(value) } else { None }
 }
 
-/// The byte that two hexadecimal digits spell. The error is HEX if one of them is no such digit.
+/// Returns the byte that two hexadecimal digits in lower case spell. The error is HEX if `high` or `low` is no such
+/// digit.
 #[inline]
 pub fn byte_of(high: u8, low: u8) -> Result<u8, FaultKind>
     ensures { result ≡ byte_from high low }
@@ -50,7 +51,7 @@ pub fn byte_of(high: u8, low: u8) -> Result<u8, FaultKind>
     Ok(high * 16 + low)
 }
 
-/// Reads a field of one byte. The error is HEX unless the field is two hexadecimal digits.
+/// Reads a field of one byte. The error is HEX unless the field is two hexadecimal digits in lower case.
 pub fn byte(field: &[u8]) -> Result<u8, FaultKind>
     ensures { result ≡ byte_in field.now }
 {
@@ -60,7 +61,8 @@ pub fn byte(field: &[u8]) -> Result<u8, FaultKind>
     }
 }
 
-/// Reads 1 to 32 bytes of two hexadecimal digits each. The error is HEX for anything else.
+/// Reads a field of 1 to 32 bytes, each spelt by two hexadecimal digits in lower case. The error is HEX if the field is
+/// anything else.
 pub fn bytes(field: &[u8]) -> Result<ArrayVec<u8, MAX_BYTES>, FaultKind>
     ensures ok { IfOk result (λ bytes. bytes_in field.now ≡ Ok bytes.items) }
     ensures err { IfErr result (λ kind. bytes_in field.now ≡ Err kind) }
@@ -84,7 +86,8 @@ pub fn bytes(field: &[u8]) -> Result<ArrayVec<u8, MAX_BYTES>, FaultKind>
     Ok(bytes)
 }
 
-/// Reads an address from 0 to fffffff, without a leading zero. The error is NUMBER for anything else.
+/// Reads a hexadecimal address from 0 to fffffff, without a leading zero. The error is NUMBER if the field is anything
+/// else.
 pub fn address(field: &[u8]) -> Result<u64, FaultKind>
     ensures value { result ≡ address_in field.now }
     ensures most { IfOk result (λ a. a ≤ 268435455) }
@@ -92,7 +95,8 @@ pub fn address(field: &[u8]) -> Result<u64, FaultKind>
     hex_within(field, MAX_ADDRESS)
 }
 
-/// Reads an address of 48 bits, from 0 to ffffffffffff, without a leading zero. The error is NUMBER for anything else.
+/// Reads a hexadecimal address of 48 bits, from 0 to ffffffffffff, without a leading zero. The error is NUMBER if the
+/// field is anything else.
 pub fn wide_address(field: &[u8]) -> Result<u64, FaultKind>
     ensures value { result ≡ hex_in 11 281474976710655 field.now }
     ensures most { IfOk result (λ a. a ≤ 281474976710655) }
@@ -100,7 +104,8 @@ pub fn wide_address(field: &[u8]) -> Result<u64, FaultKind>
     hex_within(field, MAX_WIDE_ADDRESS)
 }
 
-/// Reads a field of hexadecimal digits from 0 to `most`, without a leading zero. The error is NUMBER for anything else.
+/// Reads a hexadecimal number from 0 to `most`, without a leading zero. The error is NUMBER if the field is anything
+/// else.
 fn hex_within(field: &[u8], most: u64) -> Result<u64, FaultKind>
     ensures value { (more : ℕ) → most < 16 ^ suc more → result ≡ hex_in more most field.now }
     ensures most { IfOk result (λ value. value ≤ most) }
@@ -120,7 +125,7 @@ fn hex_within(field: &[u8], most: u64) -> Result<u64, FaultKind>
     Ok(value)
 }
 
-/// Whether there are two digits or more, of which the first is 0.
+/// Whether there are at least two digits and the first of them is 0.
 pub fn has_leading_zero(digits: &[u8]) -> bool
     ensures { IsTrue result ↔ (2 ≤ length digits.now) × (slice_index digits.now 0 ≡ 48) }
 {

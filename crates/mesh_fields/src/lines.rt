@@ -9,22 +9,22 @@ use crate::numbers::number32;
 use arrayvec::ArrayVec;
 use model_words::FaultKind;
 
-/// The most bytes of a line, without its end.
+/// The greatest number of bytes of a line, without the line end.
 pub const MAX_LINE_BYTES: usize = 1024;
 
-/// The most fields of a line.
+/// The greatest number of fields of a line.
 const MAX_FIELDS: usize = 35;
 
-/// The fields of one line, its word first.
+/// The fields of one line. The first field is the line's word.
 pub type Fields<'a> = ArrayVec<&'a [u8], MAX_FIELDS>;
 
-/// The most fields of a line that asks for no search.
+/// The greatest number of fields of a line that isn't a `pair` line.
 const FEW_FIELDS: usize = 6;
 
-/// The fields of a line that asks for no search, its word first.
+/// The fields of a line that isn't a `pair` line. The first field is the line's word.
 pub type FewFields<'a> = ArrayVec<&'a [u8], FEW_FIELDS>;
 
-/// The bytes before the first `at` and the bytes after it. `None` if there is no `at`.
+/// Returns the bytes before the first `at`, and the bytes after it. Returns `None` if no byte is `at`.
 pub fn cut(bytes: &[u8], at: u8) -> Option<(&[u8], &[u8])>
     ensures none { IsNone result → slice_split (λ b. nat_eq b at) bytes.now ≡ bytes.now ∷ [] }
     ensures some { IfSome result
@@ -43,8 +43,8 @@ fn is_printable(byte: u8) -> bool
     (b' '..=b'~').contains(&byte)
 }
 
-/// Checks the bytes of a line, without its end. The error is LONG_LINE if there are more than 1,024, and BYTE if one of
-/// them isn't from 20 to 7e.
+/// Checks the bytes of a line, without the line end. The error is LONG_LINE if there are more than 1,024 bytes.
+/// Otherwise it is BYTE if some byte isn't from 0x20 to 0x7e.
 pub fn check_bytes(line: &[u8]) -> Result<(), FaultKind>
     ensures { result ≡ bytes_fit line.now }
 {
@@ -57,8 +57,8 @@ pub fn check_bytes(line: &[u8]) -> Result<(), FaultKind>
     Ok(())
 }
 
-/// The fault of the bytes after the last line end of a text: LONG_LINE if there are more than a line may have, and
-/// otherwise CUT.
+/// Returns the fault of a text that ends with these bytes after its last line end: LONG_LINE if there are more than
+/// 1,024 bytes, and CUT otherwise.
 pub fn rest_fault(rest: &[u8]) -> FaultKind
     ensures { result ≡ rest_fault rest.now }
 {
@@ -69,11 +69,11 @@ pub fn rest_fault(rest: &[u8]) -> FaultKind
     }
 }
 
-/// Returns the next line without its end, and the bytes after it. `None` if the text contains no line end and is no
-/// longer than a line may be.
+/// Returns the next line without its line end, and the bytes after that line end. Returns `None` if the text contains
+/// no line end and has at most 1,024 bytes.
 ///
-/// The error is LONG_LINE if the first 1,025 bytes contain no line end, and BYTE if one of the line's bytes isn't from
-/// 20 to 7e.
+/// The error is LONG_LINE if the first 1,025 bytes contain no line end, and BYTE if some byte of the line isn't from
+/// 0x20 to 0x7e.
 pub fn next_line(text: &[u8]) -> Result<Option<(&[u8], &[u8])>, FaultKind>
     ensures lines { IfOk result
         (λ next. IfSome next (λ pieces. text_lines text.now ≡ pieces.0.now ∷ text_lines pieces.1.now)) }
@@ -94,8 +94,9 @@ pub fn next_line(text: &[u8]) -> Result<Option<(&[u8], &[u8])>, FaultKind>
     Ok(Some((line, rest)))
 }
 
-/// Splits the next line of a text into its fields, its word first, and returns the bytes after it. It is a single scan
-/// for the most common lines. `None` if the line has a fault, an empty field or more than `FEW_FIELDS` fields.
+/// Splits the next line of a text into its fields, and returns the bytes after the line end. This single scan is for
+/// the most common lines. Returns `None` if the text has no whole line, or if the line has a fault, an empty field or
+/// more than `FEW_FIELDS` fields.
 pub fn few_fields<'a>(text: &'a [u8], fields: &mut FewFields<'a>) -> Option<&'a [u8]>
     requires { fields.old.items ≡ [] }
     ensures split { IfSome result (λ rest. IsSplit text.now (texts fields.new.items) rest.now) }
@@ -123,7 +124,8 @@ pub fn few_fields<'a>(text: &'a [u8], fields: &mut FewFields<'a>) -> Option<&'a 
     None
 }
 
-/// The first place from `start` on whose byte isn't allowed in a field, or `most` if there is none.
+/// Returns the first place from `start` to `most` whose byte isn't allowed in a field. Returns `most` if all bytes
+/// before `most` are allowed.
 #[inline(never)]
 fn field_end(text: &[u8], start: usize, most: usize) -> usize
     requires start { start ≤ most }
@@ -146,8 +148,8 @@ fn is_field_byte(byte: u8) -> bool
     (b'!'..=b'~').contains(&byte)
 }
 
-/// Returns the fields between the single spaces of a line. The error is WORD if one of them is empty, or if there are
-/// too many for any line.
+/// Returns the fields between the single spaces of a line. The error is WORD if some field is empty, or if there are
+/// more than 35 fields.
 pub fn fields_of(line: &[u8]) -> Result<Fields<'_>, FaultKind>
     ensures fields { IfOk result (λ fields. texts fields.items ≡ line_fields line.now) }
     ensures filled { OnOk result (list_any is_empty (line_fields line.now) ≡ false) }
@@ -165,7 +167,7 @@ pub fn fields_of(line: &[u8]) -> Result<Fields<'_>, FaultKind>
     Ok(fields)
 }
 
-/// Appends a field. The error is WORD if the field is empty or there is no room.
+/// Appends a field. The error is WORD if the field is empty or the list is full.
 fn add_field<'a, const MOST: usize>(
     fields: &mut ArrayVec<&'a [u8], MOST>,
     field: &'a [u8],
@@ -181,14 +183,14 @@ fn add_field<'a, const MOST: usize>(
     fields.try_push(field).map_err(|_| FaultKind::Word)
 }
 
-/// Whether a line's word is this one.
+/// Whether the word of a line is `wanted`.
 pub fn is_word(word: &[u8], wanted: &[u8]) -> bool
     ensures { result ≡ are_same word.now wanted.now }
 {
     word == wanted
 }
 
-/// Returns the only field after a line's word. The error is WORD if there is another number of fields.
+/// Returns the only field after the word of a line. The error is WORD if the number of fields isn't one.
 pub fn one_field<'a>(fields: &[&'a [u8]]) -> Result<&'a [u8], FaultKind>
     ensures ok { IfOk result (λ field. one_field (texts fields.now) ≡ Ok field.now) }
     ensures err { IfErr result (λ kind. one_field (texts fields.now) ≡ Err kind) }
@@ -199,7 +201,7 @@ pub fn one_field<'a>(fields: &[&'a [u8]]) -> Result<&'a [u8], FaultKind>
     }
 }
 
-/// Returns the two fields after a line's word. The error is WORD if there is another number of fields.
+/// Returns the two fields after the word of a line. The error is WORD if the number of fields isn't two.
 pub fn two_fields<'a>(fields: &[&'a [u8]]) -> Result<(&'a [u8], &'a [u8]), FaultKind>
     ensures ok { IfOk result (λ f. two_fields (texts fields.now) ≡ Ok (f.0.now, f.1.now)) }
     ensures err { IfErr result (λ kind. two_fields (texts fields.now) ≡ Err kind) }
@@ -210,7 +212,7 @@ pub fn two_fields<'a>(fields: &[&'a [u8]]) -> Result<(&'a [u8], &'a [u8]), Fault
     }
 }
 
-/// Returns the three fields after a line's word. The error is WORD if there is another number of fields.
+/// Returns the three fields after the word of a line. The error is WORD if the number of fields isn't three.
 pub fn three_fields<'a>(fields: &[&'a [u8]]) -> Result<(&'a [u8], &'a [u8], &'a [u8]), FaultKind>
     ensures ok { IfOk result (λ f. three_fields (texts fields.now) ≡ Ok (f.0.now, f.1.now, f.2.now)) }
     ensures err { IfErr result (λ kind. three_fields (texts fields.now) ≡ Err kind) }
@@ -221,7 +223,7 @@ pub fn three_fields<'a>(fields: &[&'a [u8]]) -> Result<(&'a [u8], &'a [u8], &'a 
     }
 }
 
-/// Returns the five fields after a line's word. The error is WORD if there is another number of fields.
+/// Returns the five fields after the word of a line. The error is WORD if the number of fields isn't five.
 pub fn five_fields<'a>(
     fields: &[&'a [u8]],
 ) -> Result<(&'a [u8], &'a [u8], &'a [u8], &'a [u8], &'a [u8]), FaultKind>
@@ -234,7 +236,7 @@ pub fn five_fields<'a>(
     }
 }
 
-/// Checks that a line has no field after its word. The error is WORD if it has one.
+/// Checks that a line has no field after its word. The error is WORD if the line has such a field.
 pub fn no_field(fields: &[&[u8]]) -> Result<(), FaultKind>
     ensures { result ≡ no_field (texts fields.now) }
 {
@@ -244,8 +246,9 @@ pub fn no_field(fields: &[&[u8]]) -> Result<(), FaultKind>
     }
 }
 
-/// Reads the number of a header line: the expected word and one number. The error is WORD for any other line, and
-/// NUMBER if the number isn't from `least` to `most`.
+/// Reads a header line, which is the word `wanted` and one number, and returns the number. The error is WORD if the
+/// line has another word or another number of fields. Otherwise it is NUMBER if the number isn't from `least` to
+/// `most`.
 pub fn header(
     word: &[u8],
     fields: &[&[u8]],

@@ -6,8 +6,8 @@ use crate::bases::Base;
 use crate::hex::has_leading_zero;
 use model_words::FaultKind;
 
-/// The number whose decimal spelling the field is: digits without a leading zero, at most 18446744073709551615. `None`
-/// if there is no such number.
+/// Returns the number whose decimal spelling the field is. A spelling has no leading zero, and the number is at most
+/// 18446744073709551615. Returns `None` if the field is no such spelling.
 fn decimal_of(field: &[u8]) -> Option<u64>
     ensures some { IfSome result (λ number. field.now ≡ decimal number) }
     ensures none { IsNone result → (n : ℕ) → n < 2 ^ 64 → field.now ≢ decimal n }
@@ -22,7 +22,7 @@ fn decimal_of(field: &[u8]) -> Option<u64>
     Some(number)
 }
 
-/// Reads a decimal field from `least` to `most`. The error is NUMBER for anything else.
+/// Reads a decimal number from `least` to `most`. The error is NUMBER if the field is anything else.
 pub fn number(field: &[u8], least: u64, most: u64) -> Result<u64, FaultKind>
     ensures value { result ≡ number_in least most field.now }
     ensures most { IfOk result (λ number. number ≤ most) }
@@ -39,7 +39,8 @@ pub fn number(field: &[u8], least: u64, most: u64) -> Result<u64, FaultKind>
     Ok(number)
 }
 
-/// Reads a decimal field from `least` to `most`, which fits 32 bits. The error is NUMBER for anything else.
+/// Reads a decimal number from `least` to `most`, of at most 32 bits. The error is NUMBER if the field is anything
+/// else.
 pub fn number32(field: &[u8], least: u32, most: u32) -> Result<u32, FaultKind>
     ensures value { result ≡ number_in least most field.now }
     ensures most { IfOk result (λ number. number ≤ most) }

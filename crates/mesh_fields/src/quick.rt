@@ -1,5 +1,5 @@
-//! The fields of the most common lines, each read in one pass over the text with the byte that ends it. `None` if a
-//! field isn't spelt that way: then its line is read field by field.
+//! The fields of the most common lines, each read in one pass over the text, together with the byte after the field. A
+//! function returns `None` if it can't read the field. The line is then read field by field.
 ghost use Rattle.std.specs.Prelude.{◌≡◌, ◌∷◌, ◌++◌, ◌<◌, ◌≤◌, ◌^◌, decimal, length, IfSome, IsTrue};
 ghost use Rattle.std.specs.List.{All};
 ghost use Rattle.model_jobs.specs.Texts.{address_text, byte_text, bytes_text, hex_from};
@@ -12,16 +12,16 @@ use crate::hex::{byte_of, has_leading_zero};
 use arrayvec::ArrayVec;
 use model_words::MAX_BYTES;
 
-/// The most decimal digits that are read. Any 19 digits fit 64 bits.
+/// The greatest number of decimal digits that are read. Any 19 digits fit 64 bits.
 const MOST_DIGITS: usize = 19;
 
-/// The most digits of an address of a job.
+/// The greatest number of digits of an address of a job.
 const MOST_HEX_DIGITS: usize = 7;
 
-/// The most digits of an address of 48 bits.
+/// The greatest number of digits of an address of 48 bits.
 const MOST_WIDE_DIGITS: usize = 12;
 
-/// The bytes after the first one, if the text begins with `byte`.
+/// Returns the bytes after the first byte, if the first byte is `byte`. Otherwise returns `None`.
 #[inline]
 pub fn behind(text: &[u8], byte: u8) -> Option<&[u8]>
     ensures { IfSome result (λ rest. text.now ≡ byte ∷ rest.now) }
@@ -32,7 +32,7 @@ pub fn behind(text: &[u8], byte: u8) -> Option<&[u8]>
     }
 }
 
-/// The bytes after `front`, if the text begins with it.
+/// Returns the bytes after `front`, if the text begins with `front`. Otherwise returns `None`.
 #[inline]
 pub fn behind_all<'a>(text: &'a [u8], front: &[u8]) -> Option<&'a [u8]>
     ensures { IfSome result (λ rest. text.now ≡ front.now ++ rest.now) }
@@ -40,7 +40,8 @@ pub fn behind_all<'a>(text: &'a [u8], front: &[u8]) -> Option<&'a [u8]>
     text.strip_prefix(front)
 }
 
-/// Whether digits are the spelling of a number: there is at least one, and no leading zero before others.
+/// Whether digits are the spelling of a number: there is at least one digit, and 0 is the first digit only if it is the
+/// only one.
 #[inline]
 fn spell_number(digits: &[u8]) -> bool
     ensures some { IsTrue result → 1 ≤ length digits.now }
@@ -49,7 +50,8 @@ fn spell_number(digits: &[u8]) -> bool
     !digits.is_empty() && !has_leading_zero(digits)
 }
 
-/// The number that the text's first digits of a base spell, at most `most` digits, and the bytes after them.
+/// Returns the number that the digits at the start of the text spell, and the bytes after these digits. Reads at most
+/// `most` digits. Returns `None` if there is no digit, or if the digits have a leading zero.
 #[inline]
 fn digits(text: &[u8], base: Base, most: usize) -> Option<(u64, &[u8])>
     requires { most ≤ most_digits base }
@@ -72,7 +74,7 @@ fn digits(text: &[u8], base: Base, most: usize) -> Option<(u64, &[u8])>
     Some((value, &text[place..]))
 }
 
-/// A word of 64 bits, and the bytes after its end.
+/// Reads a word of 64 bits and the byte `end` after it. Returns the word and the remaining bytes.
 #[inline]
 pub fn word(text: &[u8], end: u8) -> Option<(u64, &[u8])>
     ensures { IfSome result (λ read. text.now ≡ decimal read.0 ++ end ∷ read.1.now) }
@@ -82,7 +84,7 @@ pub fn word(text: &[u8], end: u8) -> Option<(u64, &[u8])>
     Some((value, rest))
 }
 
-/// A number from `least` to `most`, and the bytes after its end.
+/// Reads a number from `least` to `most` and the byte `end` after it. Returns the number and the remaining bytes.
 #[inline]
 pub fn number(text: &[u8], least: u32, most: u32, end: u8) -> Option<(u32, &[u8])>
     ensures spelt { IfSome result (λ read. text.now ≡ decimal read.0 ++ end ∷ read.1.now) }
@@ -99,7 +101,7 @@ pub fn number(text: &[u8], least: u32, most: u32, end: u8) -> Option<(u32, &[u8]
     Some((value as u32, rest))
 }
 
-/// The number of a root cell, and the bytes after its end.
+/// Reads the number of a root cell and the byte `end` after it. Returns the number and the remaining bytes.
 #[inline]
 pub fn cell(text: &[u8], end: u8) -> Option<(u8, &[u8])>
     ensures { IfSome result (λ read. text.now ≡ decimal read.0 ++ end ∷ read.1.now) }
@@ -108,7 +110,7 @@ pub fn cell(text: &[u8], end: u8) -> Option<(u8, &[u8])>
     Some((value as u8, rest))
 }
 
-/// An address of a job, and the bytes after its end.
+/// Reads an address of a job and the byte `end` after it. Returns the address and the remaining bytes.
 #[inline]
 pub fn address(text: &[u8], end: u8) -> Option<(u32, &[u8])>
     ensures spelt { IfSome result (λ read. text.now ≡ address_text read.0 ++ end ∷ read.1.now) }
@@ -119,7 +121,7 @@ pub fn address(text: &[u8], end: u8) -> Option<(u32, &[u8])>
     Some((value as u32, rest))
 }
 
-/// An address of 48 bits, and the bytes after its end.
+/// Reads an address of 48 bits and the byte `end` after it. Returns the address and the remaining bytes.
 #[inline]
 pub fn wide_address(text: &[u8], end: u8) -> Option<(u64, &[u8])>
     ensures spelt { IfSome result (λ read. text.now ≡ hex_from 11 read.0 ++ end ∷ read.1.now) }
@@ -130,7 +132,7 @@ pub fn wide_address(text: &[u8], end: u8) -> Option<(u64, &[u8])>
     Some((value, rest))
 }
 
-/// A byte, and the bytes after its end.
+/// Reads the two digits of a byte and the byte `end` after them. Returns the byte and the remaining text.
 #[inline]
 pub fn byte(text: &[u8], end: u8) -> Option<(u8, &[u8])>
     ensures { IfSome result (λ read. text.now ≡ byte_text read.0 ++ end ∷ read.1.now) }
@@ -143,7 +145,7 @@ pub fn byte(text: &[u8], end: u8) -> Option<(u8, &[u8])>
     Some((value, rest))
 }
 
-/// From 1 to 32 bytes, and the text after their end.
+/// Reads the digits of 1 to 32 bytes and the byte `end` after them. Returns the bytes and the remaining text.
 #[inline]
 pub fn bytes(text: &[u8], end: u8) -> Option<(ArrayVec<u8, MAX_BYTES>, &[u8])>
     ensures spelt { IfSome result (λ read. text.now ≡ bytes_text read.0.items ++ end ∷ read.1.now) }

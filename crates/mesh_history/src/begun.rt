@@ -5,7 +5,7 @@ ghost use Rattle.mesh_fields.specs.KeptLines.{IsUnended};
 use mesh_fields::lines::MAX_LINE_BYTES;
 use std::alloc::{AllocError, Global};
 
-/// Bytes of a line, no more than a line may have and none of them a line end.
+/// At most 1,024 bytes of a line, without its line end.
 #[derive(Drop)]
 pub(crate) struct BegunLine {
     bytes: Vec<u8>,
@@ -14,7 +14,7 @@ pub(crate) struct BegunLine {
 }
 
 impl BegunLine {
-    /// Returns a line that hasn't begun. It allocates nothing.
+    /// Returns a line without bytes. The call allocates nothing.
     pub(crate) fn new(alloc: Global) -> BegunLine
         ensures { result.bytes.items ≡ [] }
     {
@@ -23,7 +23,7 @@ impl BegunLine {
         }
     }
 
-    /// Whether the line hasn't begun.
+    /// Whether the line has no bytes yet.
     pub(crate) fn is_empty(&self) -> bool
         ensures { IsTrue result ↔ self.now.bytes.items ≡ [] }
     {
@@ -37,14 +37,14 @@ impl BegunLine {
         self.bytes.as_slice()
     }
 
-    /// How many more bytes the line may have.
+    /// Returns how many more bytes the line may have. The maximum of a line is 1,024 bytes.
     pub(crate) fn room(&self) -> usize
         ensures { result ≡ 1024 - length self.now.bytes.items }
     {
         MAX_LINE_BYTES - self.bytes.len()
     }
 
-    /// Adds bytes of the line, for which there is room. An error is an allocation failure.
+    /// Adds bytes to the line, which must have room for them. Returns an error if an allocation fails.
     pub(crate) fn add(&mut self, bytes: &[u8]) -> Result<(), AllocError>
         requires room { length bytes.now ≤ 1024 - length self.old.bytes.items }
         requires unended { IsUnended bytes.now }

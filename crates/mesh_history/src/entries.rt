@@ -1,4 +1,4 @@
-//! The lines of a recorded history: the first one, and the entries.
+//! Reads the lines of a recorded history: the first line, and the lines of entries.
 ghost use Rattle.std.specs.Prelude.{◌≡◌, IfOk, IfErr, IfSome, IsNone, Ok, Err, Some, None};
 ghost use Rattle.model_words.specs.Commands.{IsInRange};
 ghost use Rattle.mesh_fields.specs.Commands.{plain_command};
@@ -16,17 +16,17 @@ use model_words::FaultKind;
 /// The only version of a recorded history.
 const VERSION: u32 = 1;
 
-/// The greatest number of a worker.
+/// The greatest number that a worker can have.
 pub(crate) const MAX_WORKER: u32 = 65_535;
 
-/// Reads the first line of a history, `history 1`, without its end.
+/// Reads the first line of a history, `history 1`, without its line end.
 ///
-/// The error is the first of these faults that holds:
+/// The error is the first of these that applies:
 ///
-/// - LONG_LINE if the line has more than 1,024 bytes;
-/// - BYTE if one of them isn't from 20 to 7e;
-/// - WORD if the line isn't the word `history` and one field after it;
-/// - NUMBER if that field isn't `1`.
+/// - LONG_LINE, if the line has more than 1,024 bytes.
+/// - BYTE, if a byte isn't from 20 to 7e (hexadecimal).
+/// - WORD, if the line isn't the word `history`, a space and one field that isn't empty.
+/// - NUMBER, if this field isn't `1`.
 pub fn read_head(line: &[u8]) -> Result<(), FaultKind>
     ensures { result ≡ head_in line.now }
 {
@@ -39,16 +39,21 @@ pub fn read_head(line: &[u8]) -> Result<(), FaultKind>
     Ok(())
 }
 
-/// Reads the line of an entry, `W COMMAND -> ANSWER`, without its end.
+/// Reads the line of an entry, `W COMMAND -> ANSWER`, without its line end.
 ///
-/// The error is LONG_LINE if the line has more than 1,024 bytes, BYTE if one of them isn't from 20 to 7e, and WORD if a
-/// field is empty, if there are more than 35, or if none is `->`. Otherwise it is the leftmost fault:
+/// The error is the first of these that applies:
 ///
-/// - WORD if the worker and a word, or the word of the answer, are missing, if a word is unknown, or if it has a wrong
-///   number of fields;
-/// - NUMBER if a number or an address is misspelt or out of its range;
-/// - HEX if bytes are misspelt or have a wrong length;
-/// - WORD if there is another field instead of `at` or of the name of a refusal.
+/// - LONG_LINE, if the line has more than 1,024 bytes.
+/// - BYTE, if a byte isn't from 20 to 7e (hexadecimal).
+/// - WORD, if a field is empty, if there are more than 35 fields, or if no field is `->`.
+///
+/// Otherwise the error is that of the leftmost fault:
+///
+/// - WORD, if fewer than two fields are before `->`, or no field is after it.
+/// - WORD, if a word is unknown, or has a wrong number of fields.
+/// - NUMBER, if a number or an address is misspelt or out of its range.
+/// - HEX, if bytes are misspelt or have a wrong length.
+/// - WORD, if another field replaces `at` or the name of a refusal.
 pub fn read_entry(line: &[u8]) -> Result<RecordedEntry, FaultKind>
     ensures ok { IfOk result (λ entry. entry_in line.now ≡ Ok (plain_entry entry)) }
     ensures err { IfErr result (λ kind. entry_in line.now ≡ Err kind) }
@@ -62,7 +67,7 @@ pub fn read_entry(line: &[u8]) -> Result<RecordedEntry, FaultKind>
     entry_of(before, behind)
 }
 
-/// The fields before the first arrow, and those after it. `None` if no field is an arrow.
+/// Returns the fields before the first field `->`, and the fields after it. Returns `None` if no field is `->`.
 fn arrow_split<'a, 'b>(fields: &'b [&'a [u8]]) -> Option<(&'b [&'a [u8]], &'b [&'a [u8]])>
     ensures some { IfSome result
         (λ parts. arrow_split (texts fields.now) ≡ Some (texts parts.0.now, texts parts.1.now)) }
@@ -72,7 +77,8 @@ fn arrow_split<'a, 'b>(fields: &'b [&'a [u8]]) -> Option<(&'b [&'a [u8]], &'b [&
     Some((&fields[..place], &fields[place + 1..]))
 }
 
-/// The entry with the fields `before` its arrow and `behind` it.
+/// Returns the entry whose line has the fields `before` in front of `->` and the fields `behind` after it. The error is
+/// that of the leftmost fault.
 fn entry_of(before: &[&[u8]], behind: &[&[u8]]) -> Result<RecordedEntry, FaultKind>
     ensures ok { IfOk result (λ entry. entry_of (texts before.now) (texts behind.now) ≡ Ok (plain_entry entry)) }
     ensures err { IfErr result (λ kind. entry_of (texts before.now) (texts behind.now) ≡ Err kind) }
@@ -89,7 +95,7 @@ fn entry_of(before: &[&[u8]], behind: &[&[u8]]) -> Result<RecordedEntry, FaultKi
     })
 }
 
-/// `W COMMAND`: a worker and its command.
+/// Reads `W COMMAND`: a worker and its command.
 fn asked_of(fields: &[&[u8]]) -> Result<(u32, SpeltCommand), FaultKind>
     ensures ok { IfOk result (λ asked. asked_in (texts fields.now) ≡ Ok (asked.0, plain_command asked.1)) }
     ensures err { IfErr result (λ kind. asked_in (texts fields.now) ≡ Err kind) }
@@ -104,7 +110,7 @@ fn asked_of(fields: &[&[u8]]) -> Result<(u32, SpeltCommand), FaultKind>
     Ok((worker, command))
 }
 
-/// The answer of an entry.
+/// Reads the answer of an entry.
 fn answer_of(fields: &[&[u8]]) -> Result<RecordedReply, FaultKind>
     ensures ok { IfOk result (λ reply. answer_in (texts fields.now) ≡ Ok (plain_reply reply)) }
     ensures err { IfErr result (λ kind. answer_in (texts fields.now) ≡ Err kind) }

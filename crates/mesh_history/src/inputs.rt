@@ -18,12 +18,13 @@ use std::alloc::{AllocError, Global};
 pub struct HistoryInput {
     /// The state of the reader after the bytes so far.
     reader: EntryReader,
-    /// The bytes that were read from the device, but not by the reader yet.
+    /// The bytes that were read from the device, and that the reader hasn't consumed yet.
     pending: Pending,
 }
 
 impl HistoryInput {
-    /// Returns a history of which nothing was read, with the buffer for one read. An error is an allocation failure.
+    /// Returns a history of which nothing was read, and allocates the buffer for one read. Returns an error if the
+    /// allocation fails.
     pub fn new(alloc: Global) -> Result<HistoryInput, AllocError>
         ensures { IfOk result IsFresh }
     {
@@ -33,17 +34,22 @@ impl HistoryInput {
         })
     }
 
-    /// How many lines were read: the line number of the last entry, from 1.
+    /// Returns the number of lines read so far. It is the line number of the last entry, counted from 1.
     pub fn lines(&self) -> u32
         ensures { result ≡ lines_before self.now }
     {
         self.reader.lines()
     }
 
-    /// Returns the next entry of the history that is read from `input`. `None` at its end.
+    /// Returns the next entry of the history that is read from `input`, or `None` at the end of the history.
     ///
-    /// Errors: Text if a line has a fault, or if the text ends within a line; Read if and only if the input failed;
-    /// Memory if an allocation failed. Write is never returned. After an error the history must not be used.
+    /// Errors:
+    ///
+    /// - `Text`, if a line has a fault, if the text ends within a line, or if the text has no line.
+    /// - `Read`, if and only if the input failed.
+    /// - `Memory`, if an allocation failed.
+    ///
+    /// `Write` is never returned. After an error, the history must not be used.
     pub fn next<I: Source>(&mut self, input: &mut I) -> Result<Option<RecordedEntry>, ReplayError>
         requires { I.has_failed input.old ≡ false }
         ensures ok { OnOk result (I.has_failed input.new ≡ false) }
@@ -76,7 +82,8 @@ impl HistoryInput {
         }
     }
 
-    /// The next entry of the bytes that were read. `None` if they are used up.
+    /// Returns the next entry of the pending bytes, or `None` if all pending bytes are consumed. The errors are those
+    /// of `EntryReader::next`.
     fn take(&mut self) -> Result<Option<RecordedEntry>, ReadFault>
         ensures entry { IfOk result (λ next. IfSome next (IsNext self.old self.new)) }
         ensures used_up { IfOk result (λ next. IsNone next → IsUsedUp self.old self.new) }
@@ -91,7 +98,7 @@ impl HistoryInput {
         Ok(Some(entry))
     }
 
-    /// Ends the history. An error is the fault of a text that ends here.
+    /// Checks that the history may end here. The error is the fault of a text that ends here.
     fn finish(&self) -> Result<(), ReplayError>
         requires { self.now.pending ≡ [] }
         ensures ok { OnOk result (MayEnd self.now) }

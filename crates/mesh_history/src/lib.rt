@@ -1,9 +1,9 @@
 //! Reads the lines of a recorded history: commands and answers of any allocator.
 //!
-//! Cells, lengths and addresses have wider ranges than in a job file. `read_head` and `read_entry` read one line, and
-//! `quick_entry` reads a common one in one pass over the text. An `EntryReader` returns the entries of a text that
-//! comes in pieces, and a `HistoryInput` those of a device. A contract sees what was read as commands and replies of
-//! the reference memory (called plain memory in the code).
+//! Cells, lengths, offsets and addresses have wider ranges than in a job file. `read_head` and `read_entry` read one
+//! line, and `quick_entry` reads the line of a common entry in one pass over the text. An `EntryReader` returns the
+//! entries of a text that comes in pieces, and a `HistoryInput` returns the entries of a text that comes from a device.
+//! A contract sees the entries as commands and replies of the reference memory (called plain memory in the code).
 #![tactic(auto)]
 
 mod begun;

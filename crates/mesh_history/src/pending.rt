@@ -1,4 +1,4 @@
-//! The bytes that were read from a device, but not consumed yet.
+//! The bytes that were read from a device, and that aren't consumed yet.
 ghost use Rattle.std.specs.Prelude.{◌≡◌, ◌-◌, ◌≤◌, [], false, drop, is_err, length, vec_len, IfErr, IfOk};
 ghost use Rattle.mesh_devices.specs.declared.faults.ReplayError.{ReplayError};
 ghost use Rattle.mesh_history.specs.Pendings.{HasBytes};
@@ -7,7 +7,7 @@ use mesh_devices::{ReplayError, Source, read_some};
 use std::alloc::{AllocError, Global};
 use std::marker::Model;
 
-/// The most bytes of one read.
+/// The maximal number of bytes of one read.
 const READ_BYTES: usize = 65_536;
 
 /// The bytes of the last read that aren't consumed yet.
@@ -15,9 +15,9 @@ const READ_BYTES: usize = 65_536;
 pub(crate) struct Pending {
     /// The bytes of the last read.
     buffer: Vec<u8>,
-    /// Where the unconsumed bytes begin.
+    /// The start of the unconsumed bytes in the buffer.
     start: usize,
-    /// Where the unconsumed bytes end.
+    /// The end of the unconsumed bytes in the buffer.
     end: usize,
 }
 
@@ -33,7 +33,7 @@ impl Model for Pending {
 }
 
 impl Pending {
-    /// Returns no bytes, with the buffer for one read. An error is an allocation failure.
+    /// Allocates the buffer for one read, without unconsumed bytes. Returns an error if the allocation fails.
     pub(crate) fn new(alloc: Global) -> Result<Pending, AllocError>
         ensures { IfOk result (λ pending. pending ≡ []) }
     {
@@ -59,7 +59,8 @@ impl Pending {
         self.start = self.end - count;
     }
 
-    /// Replaces the bytes by those of the next read, and returns whether there were any.
+    /// Replaces the bytes by the bytes of the next read, and returns whether the read returned any. The error is `Read`
+    /// if the input failed.
     pub(crate) fn read<I: Source>(&mut self, input: &mut I) -> Result<bool, ReplayError>
         requires { I.has_failed input.old ≡ false }
         ensures bytes { IfOk result (HasBytes self.new (I.remaining input.old) (I.remaining input.new)) }
@@ -73,7 +74,7 @@ impl Pending {
     }
 }
 
-/// Returns the buffer for one read.
+/// Allocates the buffer for one read. Returns an error if the allocation fails.
 fn room_to_read(alloc: Global) -> Result<Vec<u8>, AllocError>
     ensures { IfOk result (λ room. vec_len room ≡ 65536) }
 {

@@ -1,5 +1,5 @@
-//! The most common entries, each read in one pass over the text, with the bytes after its line's end. `None` for any
-//! other line: then it is read field by field.
+//! Reads the most common entries in one pass over the text. The functions return `None` for any other line, which is
+//! then read field by field.
 ghost use Rattle.std.specs.Prelude.{◌≡◌, ◌∷◌, ◌++◌, ◌≤◌, codes, decimal, IfSome};
 ghost use Rattle.mesh_history.specs.QuickEntries.{IsQuickEntry};
 
@@ -8,10 +8,10 @@ use crate::{RecordedEntry, RecordedReply};
 use mesh_fields::commands::{MAX_RECORDED_LENGTH, SpeltCommand};
 use mesh_fields::quick::{behind_all, number, wide_address, word};
 
-/// The entry in the text's first line, and the bytes after that line's end.
+/// Returns the entry in the first line of the text, and the bytes after the line's end.
 ///
-/// `None` if the line has no end or has a fault, and for any entry other than a `new` that made an object, a `free` and
-/// an `alias` that were done. Such lines are split into fields.
+/// The entry must be a `new` that made an object, a `free` that was done or an `alias` that was done. Returns `None`
+/// for any other entry, and if the line has a fault or no end. The caller then splits the line into fields.
 pub fn quick_entry(text: &[u8]) -> Option<(RecordedEntry, &[u8])>
     ensures { IfSome result (λ read. IsQuickEntry text.now read.0 read.1.now) }
 {
@@ -25,7 +25,8 @@ pub fn quick_entry(text: &[u8]) -> Option<(RecordedEntry, &[u8])>
     alias_of(worker, behind_all(rest, b"alias ")?)
 }
 
-/// A number of 32 bits, and the bytes after its end.
+/// Returns the 32-bit number at the start of the text, and the bytes after the number and the byte `end`. Returns
+/// `None` if the text doesn't start with such a number and `end`.
 #[inline]
 fn wide(text: &[u8], end: u8) -> Option<(u32, &[u8])>
     ensures { IfSome result (λ read. text.now ≡ decimal read.0 ++ end ∷ read.1.now) }
@@ -33,7 +34,8 @@ fn wide(text: &[u8], end: u8) -> Option<(u32, &[u8])>
     number(text, 0, u32::MAX, end)
 }
 
-/// A length of up to 2^47, and the bytes after its end.
+/// Returns the length, up to 2^47, at the start of the text, and the bytes after the length and the byte `end`. Returns
+/// `None` if the text doesn't start with such a length and `end`.
 #[inline]
 fn size(text: &[u8], end: u8) -> Option<(u64, &[u8])>
     ensures spelt { IfSome result (λ read. text.now ≡ decimal read.0 ++ end ∷ read.1.now) }
@@ -46,7 +48,7 @@ fn size(text: &[u8], end: u8) -> Option<(u64, &[u8])>
     Some((value, rest))
 }
 
-/// The bytes after `-> done` and the line's end.
+/// Returns the bytes after `-> done` and a line end. Returns `None` if the text doesn't start with both.
 #[inline]
 fn behind_done(text: &[u8]) -> Option<&[u8]>
     ensures { IfSome result (λ rest. text.now ≡ codes "-> done" ++ 10 ∷ rest.now) }
@@ -54,7 +56,7 @@ fn behind_done(text: &[u8]) -> Option<&[u8]>
     behind_all(text, b"-> done\n")
 }
 
-/// `CELL LEN WORD -> object SERIAL at ADDR` of a `new`
+/// Reads `CELL LEN WORD -> object SERIAL at ADDR` of a `new`. Returns `None` for any other text.
 fn new_of(worker: u32, fields: &[u8]) -> Option<(RecordedEntry, &[u8])>
     requires { worker ≤ 65535 }
     ensures { IfSome result
@@ -73,7 +75,7 @@ fn new_of(worker: u32, fields: &[u8]) -> Option<(RecordedEntry, &[u8])>
     Some((entry, rest))
 }
 
-/// `CELL -> done` of a `free`
+/// Reads `CELL -> done` of a `free`. Returns `None` for any other text.
 fn free_of(worker: u32, fields: &[u8]) -> Option<(RecordedEntry, &[u8])>
     requires { worker ≤ 65535 }
     ensures { IfSome result
@@ -89,7 +91,7 @@ fn free_of(worker: u32, fields: &[u8]) -> Option<(RecordedEntry, &[u8])>
     Some((entry, rest))
 }
 
-/// `TO FROM -> done` of an `alias`
+/// Reads `TO FROM -> done` of an `alias`. Returns `None` for any other text.
 fn alias_of(worker: u32, fields: &[u8]) -> Option<(RecordedEntry, &[u8])>
     requires { worker ≤ 65535 }
     ensures { IfSome result

@@ -15,17 +15,17 @@ use mesh_job::ReadFault;
 use model_words::{FaultKind, TextFault};
 use std::alloc::Global;
 
-/// A reader of a recorded history, of which it has read a beginning.
+/// A reader of a recorded history, after it has read a beginning of the text.
 #[derive(Drop)]
 pub struct EntryReader {
-    /// How many lines were read.
+    /// The number of lines read so far.
     lines: u32,
     /// The beginning of the line whose end hasn't come yet.
     begun: BegunLine,
 }
 
 impl EntryReader {
-    /// Returns a reader that has read nothing. It allocates nothing.
+    /// Returns a reader that has read nothing. The call allocates nothing.
     pub fn new(alloc: Global) -> EntryReader
         ensures lines { lines_of result ≡ 0 }
         ensures reads { (text : List ℕ) → reading_behind result text ≡ reading_of text }
@@ -36,19 +36,24 @@ impl EntryReader {
         }
     }
 
-    /// How many lines were read: the line number of the last entry.
+    /// Returns the number of lines read so far. It is the line number of the last entry, counted from 1.
     pub fn lines(&self) -> u32
         ensures { result ≡ lines_of self.now }
     {
         self.lines
     }
 
-    /// Returns the next entry of the text, whose next bytes are `piece`, and the bytes of the piece after that entry's
-    /// line. `None` if the piece is used up; the bytes of a line that begins in it are kept.
+    /// Reads `piece`, the next bytes of the text, up to the end of the next entry's line. Returns the entry, and the
+    /// bytes of the piece after this line. Returns `None` if the piece ends before the line does. The reader then keeps
+    /// the bytes of the unfinished line.
     ///
-    /// The error is Text if a line has a fault: LONG_LINE as soon as too many bytes of it have come, and TOO_LONG if
-    /// there are too many lines. It is Memory if the allocation for an unfinished line failed. After an error the
-    /// reader must not be used.
+    /// Errors:
+    ///
+    /// - `Text`, if a line has a fault. Its kind is LONG_LINE as soon as more than 1,024 bytes of a line have come, and
+    ///   TOO_LONG if there are more than 4,294,967,295 lines.
+    /// - `Memory`, if the allocation for an unfinished line failed.
+    ///
+    /// After an error, the reader must not be used.
     pub fn next<'a>(
         &mut self,
         piece: &'a [u8],
@@ -68,7 +73,7 @@ impl EntryReader {
         self.next_entry(rest)
     }
 
-    /// The same after the first line.
+    /// Does what `next` does, once the first line was read.
     fn next_entry<'a>(
         &mut self,
         piece: &'a [u8],
@@ -89,7 +94,8 @@ impl EntryReader {
         Ok(Some((entry, rest)))
     }
 
-    /// The next entry, if it is a common one and its whole line is in the piece.
+    /// Returns the next entry, and the bytes after it, if `quick_entry` reads this entry from the piece. Returns
+    /// `None`, and changes nothing, if it doesn't, or if the line begins before the piece.
     fn quick<'a>(&mut self, piece: &'a [u8]) -> Option<(RecordedEntry, &'a [u8])>
         requires later { 1 ≤ lines_of self.old }
         ensures entry { IfSome result (λ read. HasRead self.old self.new piece.now read.0 read.1.now) }
@@ -103,7 +109,7 @@ impl EntryReader {
         Some((entry, rest))
     }
 
-    /// Reads the last bytes of the first line, and its end.
+    /// Reads the last bytes of the first line, and its line end.
     fn end_head(&mut self, last: &[u8]) -> Result<(), ReadFault>
         requires first { lines_of self.old ≡ 0 }
         requires unended { IsUnended last.now }
@@ -123,7 +129,7 @@ impl EntryReader {
         Ok(())
     }
 
-    /// Reads the last bytes of an entry's line, and its end.
+    /// Reads the last bytes of an entry's line, and its line end.
     fn end_entry(&mut self, last: &[u8]) -> Result<RecordedEntry, ReadFault>
         requires later { 1 ≤ lines_of self.old }
         requires unended { IsUnended last.now }
@@ -142,7 +148,8 @@ impl EntryReader {
         Ok(entry)
     }
 
-    /// Keeps bytes of a line whose end hasn't come yet.
+    /// Keeps bytes of a line whose end hasn't come yet. The error is `Text` if the line gets too long, and `Memory` if
+    /// an allocation fails.
     fn keep(&mut self, bytes: &[u8]) -> Result<(), ReadFault>
         requires unended { IsUnended bytes.now }
         ensures begun { OnOk result (begun_of self.new ≡ begun_of self.old ++ bytes.now) }
@@ -156,8 +163,8 @@ impl EntryReader {
         Ok(())
     }
 
-    /// Ends the text. The error is CUT if the text ends within a line or before its first, and TOO_LONG if it ends in
-    /// one line too many.
+    /// Checks that the text may end here. The error is CUT if the text has no line, or ends within a line. It is
+    /// TOO_LONG if the text ends within a line that is one too many.
     pub fn finish(&self) -> Result<(), TextFault>
         ensures ok { OnOk result (reading_behind self.now [] ≡ ends_with None) }
         ensures some { OnOk result (1 ≤ lines_of self.now) }
@@ -170,7 +177,8 @@ impl EntryReader {
     }
 }
 
-/// The fault of a text that ends after `lines` lines and these bytes after its last line end.
+/// Returns the fault of a text that ends after `lines` lines and the further bytes `rest`. Returns `None` if the text
+/// may end there.
 fn end_fault(lines: u32, rest: &[u8]) -> Option<TextFault>
     ensures { result ≡ end_fault lines rest.now }
 {
@@ -198,7 +206,7 @@ fn head_at(line: &[u8]) -> Result<(), ReadFault>
     }
 }
 
-/// Reads the line of an entry, which follows `lines` lines.
+/// Reads the line of an entry, after `lines` earlier lines.
 fn entry_at(lines: u32, line: &[u8]) -> Result<RecordedEntry, ReadFault>
     requires { 1 ≤ lines }
     ensures few { OnOk result (is_full lines ≡ false) }
@@ -217,7 +225,8 @@ fn entry_at(lines: u32, line: &[u8]) -> Result<RecordedEntry, ReadFault>
     }
 }
 
-/// The fault of a line that is too long, after `lines` lines.
+/// Returns the fault of a line that is too long and follows `lines` lines: LONG_LINE, or TOO_LONG if the line is one
+/// too many.
 fn long_line(lines: u32) -> ReadFault
     ensures { result ≡ ReadFault.Text (long_line lines) }
 {
@@ -227,7 +236,7 @@ fn long_line(lines: u32) -> ReadFault
     ReadFault::Text(fault_at(lines + 1, FaultKind::LongLine))
 }
 
-/// A fault of a line.
+/// Returns the fault of this kind in the line with this number.
 fn fault_at(line: u32, kind: FaultKind) -> TextFault
     ensures { result ≡ fault_at line kind }
 {

@@ -1,4 +1,4 @@
-//! The answers of a recorded history: the fields of each, from left to right.
+//! Reads the answers of a recorded history. The fields of an answer are read from left to right.
 ghost use Rattle.mesh_fields.specs.Lines.{texts};
 ghost use Rattle.mesh_history.specs.HistoryFiles.{at_in, done_in, loaded_in, object_in, peeked_in, refused_in, reply_in};
 ghost use Rattle.mesh_history.specs.RecordedWords.{IsReplyRead};
@@ -10,8 +10,8 @@ use mesh_fields::hex::{byte, bytes, wide_address};
 use mesh_fields::lines::{is_word, no_field, one_field, three_fields, two_fields};
 use model_words::FaultKind;
 
-/// The answer of an entry with this word and these fields. The error is WORD if there is no such answer, or if it has
-/// another number of fields.
+/// Returns the answer with this word and these fields. The error is WORD if no answer has this word, or if the answer
+/// has another number of fields. Otherwise the error is that of the leftmost faulty field.
 pub(crate) fn reply_of(word: &[u8], fields: &[&[u8]]) -> Result<RecordedReply, FaultKind>
     ensures { IsReplyRead (reply_in word.now (texts fields.now)) result }
 {
@@ -32,7 +32,7 @@ pub(crate) fn reply_of(word: &[u8], fields: &[&[u8]]) -> Result<RecordedReply, F
     }
 }
 
-/// `object SERIAL at ADDR`. The error is WORD if the field between the two numbers isn't `at`.
+/// Reads the fields of `object SERIAL at ADDR`. The error is WORD if the field between serial and address isn't `at`.
 fn object_of(fields: &[&[u8]]) -> Result<RecordedReply, FaultKind>
     ensures { IsReplyRead (object_in (texts fields.now)) result }
 {
@@ -44,7 +44,7 @@ fn object_of(fields: &[&[u8]]) -> Result<RecordedReply, FaultKind>
     Ok(RecordedReply::Object(serial, wide_address(address)?))
 }
 
-/// `done`
+/// Reads the fields of `done`: none.
 fn done_of(fields: &[&[u8]]) -> Result<RecordedReply, FaultKind>
     ensures { IsReplyRead (done_in (texts fields.now)) result }
 {
@@ -52,28 +52,28 @@ fn done_of(fields: &[&[u8]]) -> Result<RecordedReply, FaultKind>
     Ok(RecordedReply::Done)
 }
 
-/// `bytes HEX`
+/// Reads the field of `bytes HEX`.
 fn loaded_of(fields: &[&[u8]]) -> Result<RecordedReply, FaultKind>
     ensures { IsReplyRead (loaded_in (texts fields.now)) result }
 {
     Ok(RecordedReply::Bytes(bytes(one_field(fields)?)?))
 }
 
-/// `at ADDR`
+/// Reads the field of `at ADDR`.
 fn at_of(fields: &[&[u8]]) -> Result<RecordedReply, FaultKind>
     ensures { IsReplyRead (at_in (texts fields.now)) result }
 {
     Ok(RecordedReply::At(wide_address(one_field(fields)?)?))
 }
 
-/// `byte HH`
+/// Reads the field of `byte HH`.
 fn peeked_of(fields: &[&[u8]]) -> Result<RecordedReply, FaultKind>
     ensures { IsReplyRead (peeked_in (texts fields.now)) result }
 {
     Ok(RecordedReply::Byte(byte(one_field(fields)?)?))
 }
 
-/// `refused NUMBER NAME`
+/// Reads the fields of `refused NUMBER NAME`.
 fn refused_of(fields: &[&[u8]]) -> Result<RecordedReply, FaultKind>
     ensures { IsReplyRead (refused_in (texts fields.now)) result }
 {

@@ -1,10 +1,11 @@
-//! The greatest lengths and offsets of a recorded history, and those above them. 2^47 is 140737488355328.
+//! Tests of the greatest lengths, offsets, cells and serials in a recorded history, and of greater numbers. 2^47 is
+//! 140737488355328.
 use crate::{HistoryInput, RecordedEntry, RecordedReply, SpeltCommand, quick_entry, read_entry};
 use mesh_devices::{Input, ReplayError};
 use model_words::{FaultKind, TextFault};
 use std::process::Abort;
 
-/// The fault of an entry's line.
+/// Returns the fault of an entry's line, or `None` if it has no fault.
 fn fault(line: &[u8]) -> Option<FaultKind> {
     match read_entry(line) {
         Ok(_) => None,
@@ -111,7 +112,7 @@ fn cells_and_serials_have_32_bits(rt: HostRuntime) {
     assert_eq!(rt; fault(serial), Some(FaultKind::Number));
 }
 
-/// How many entries a text has before its end or its first fault, and that fault.
+/// Returns how many entries of a text come before its end or its first fault. Also returns this fault, if there is one.
 fn read(rt: &(impl Abort + AllocGlobal), text: &[u8]) -> (u32, Option<ReplayError>) {
     let mut history = HistoryInput::new(rt.alloc()).expect(rt, "memory");
     let mut input = Input::new(text);

@@ -3,7 +3,7 @@ use arrayvec::ArrayVec;
 use mesh_fields::commands::SpeltCommand;
 use model_words::{MAX_BYTES, Refusal};
 
-/// The answer of the allocator that was recorded.
+/// The recorded answer of the allocator.
 #[derive(Clone, Drop, PartialEq, Eq)]
 pub enum RecordedReply {
     /// `Object(serial, addr)`: the object was made. The allocator chose the serial.
@@ -25,8 +25,8 @@ pub enum RecordedReply {
 pub struct RecordedEntry {
     /// The worker that asked.
     pub worker: u32,
-    /// The command. A cell is any 32-bit number: a recorder may give each object one of its own. The length of an
-    /// object is at most 2^47.
+    /// The command. A cell is any 32-bit number, so a recorder can give each object its own cell. Lengths of objects
+    /// and offsets are at most 2^47.
     pub command: SpeltCommand,
     /// The answer.
     pub reply: RecordedReply,

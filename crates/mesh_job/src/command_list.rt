@@ -1,4 +1,4 @@
-//! Unpacked commands, for callers that need a slice of them.
+//! Unpacked commands, for callers that need a slice of commands.
 ghost use Rattle.std.specs.Prelude.{◌≡◌, [], ◌∷◌, ◌++◌, OnOk, OnErr};
 ghost use Rattle.std.specs.List.{All};
 ghost use Rattle.model_words.specs.Commands.{IsInRange};
@@ -7,9 +7,10 @@ use model_words::Command;
 use std::alloc::{AllocError, Global};
 use std::marker::Model;
 
-/// Some commands in their order, not packed.
+/// A list of unpacked commands.
 ///
-/// Each command that stores or loads bytes has 1 to 32 of them, so each may be passed to the heap.
+/// Each command that stores, loads or copies bytes does so with 1 to 32 of them, so each command may be passed to the
+/// heap.
 #[derive(Drop)]
 pub struct Commands {
     commands: Vec<Command>,
@@ -29,7 +30,7 @@ impl Model for Commands {
 }
 
 impl Commands {
-    /// An empty list. It allocates nothing.
+    /// Returns an empty list. It allocates nothing.
     pub fn new(alloc: Global) -> Self
         ensures { result ≡ [] }
     {
@@ -38,7 +39,7 @@ impl Commands {
         }
     }
 
-    /// Appends a command. An error is an allocation failure.
+    /// Appends a command. If an allocation fails, returns an error and leaves the list unchanged.
     pub fn push(&mut self, command: Command) -> Result<(), AllocError>
         requires { IsInRange command }
         ensures ok { OnOk result (self.new ≡ self.old ++ command ∷ []) }
@@ -48,7 +49,7 @@ impl Commands {
         Ok(())
     }
 
-    /// The commands, in their order.
+    /// Returns the commands in their order.
     pub fn as_slice(&self) -> &[Command]
         ensures value { result.now ≡ self.now }
         ensures in_range { All IsInRange result.now }

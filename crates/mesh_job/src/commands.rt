@@ -9,10 +9,11 @@ use mesh_fields::commands;
 use mesh_fields::commands::{Dialect, SpeltCommand};
 use model_words::{Command, FaultKind, Version};
 
-/// Reads the command of a line with this word and these fields.
+/// Returns the command of a line with this word and these fields.
 ///
-/// WORD if the version has no such command, or if it has another number of fields. Otherwise the leftmost field that is
-/// misspelt or out of range decides: NUMBER for a number or an address, HEX for the bytes of a `put` or a `poke`.
+/// The error is WORD if the version has no command with this word, or if the number of fields is wrong. Otherwise the
+/// leftmost field with a fault determines the error. It is NUMBER for a number or an address that is misspelt or out of
+/// its range, and HEX for the bytes of a `put` or a `poke`.
 pub fn command_of(version: Version, word: &[u8], fields: &[&[u8]]) -> Result<Command, FaultKind>
     ensures value { result ≡ command_in version word.now (texts fields.now) }
     ensures in_range { IfOk result IsInRange }
@@ -21,7 +22,7 @@ pub fn command_of(version: Version, word: &[u8], fields: &[&[u8]]) -> Result<Com
     Ok(narrowed(spelt))
 }
 
-/// The command of a job's line: its cells have 8 bits, and its lengths, offsets and addresses 32.
+/// Returns the command of a job's line, with cells of 8 bits, and with lengths, offsets and addresses of 32 bits.
 fn narrowed(spelt: SpeltCommand) -> Command
     requires { IsWithin 255 65535 268435455 spelt }
     ensures { result ≡ plain_command spelt }

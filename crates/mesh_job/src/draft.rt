@@ -1,4 +1,4 @@
-//! The part of a job that was read so far, line by line.
+//! The part of a job that was already read, line by line.
 ghost use Rattle.std.specs.Prelude.{◌≡◌, true, false, Ok, Err, OnOk, IfErr};
 ghost use Rattle.std.specs.List.{list_any};
 ghost use Rattle.model_jobs.specs.JobFiles.{blank_draft, has_ended, is_empty, job_of, plan_line, script_line, take_fields, take_in, version_of};
@@ -18,7 +18,7 @@ use model_jobs::text_laws::lines_read_back;
 use model_words::{FaultKind, Version};
 use std::alloc::{AllocError, Global};
 
-/// The greatest number of pages of an arena, and of entries of a journal.
+/// The greatest number of pages of an arena.
 const MAX_PAGES: u32 = 4096;
 
 const MAX_HISTORY: u32 = 65_536;
@@ -26,24 +26,24 @@ const MAX_HISTORY: u32 = 65_536;
 /// The greatest number of workers of a job.
 const MAX_WORKERS: u32 = 64;
 
-/// The section of its file that a line is in.
+/// The section of a job file that the next line belongs to.
 #[derive(Clone, Copy)]
 enum Section {
-    /// `mesh 1` or `mesh 2` comes next.
+    /// The next line must be `mesh 1` or `mesh 2`.
     Version,
-    /// `pages P` comes next.
+    /// The next line must be `pages P`.
     Pages,
-    /// `history H` comes next.
+    /// The next line must be `history H`.
     History,
-    /// `workers N` comes next.
+    /// The next line must be `workers N`.
     Workers,
-    /// `worker 0` comes next.
+    /// The next line must be `worker 0`.
     FirstWorker,
-    /// Among the commands of the worker with this number.
+    /// The commands of the worker with this number.
     Worker(u32),
-    /// Among the lines of the plan.
+    /// The lines of the plan.
     Plan,
-    /// After `end`, where nothing may come.
+    /// The file after the line `end`, which must be empty.
     Ended,
 }
 
@@ -68,7 +68,7 @@ impl Drop for Draft {
 }
 
 impl Draft {
-    /// A draft of which no line was read.
+    /// Returns a draft into which no line was read.
     pub(crate) fn new(alloc: Global) -> Self
         ensures draft { IsDraft result }
         ensures blank { draft_of result ≡ blank_draft }
@@ -96,8 +96,9 @@ impl Draft {
         }
     }
 
-    /// Takes the next line of the text, and returns the bytes after it. `None` if the text holds no whole line: then
-    /// nothing is taken.
+    /// Reads the next line of the text into the draft, and returns the bytes after that line. If the text contains no
+    /// whole line and has at most 1,024 bytes, returns `None` and reads nothing. The error is the first fault of the
+    /// line, or an allocation failure.
     pub(crate) fn take_line<'a>(&mut self, text: &'a [u8]) -> Result<Option<&'a [u8]>, LineError>
         requires draft { IsDraft self.old }
         requires going { has_ended (draft_of self.old).section ≡ false }
@@ -109,7 +110,7 @@ impl Draft {
         self.take_few_fields(text)
     }
 
-    /// Does the same as `take_line`, field by field.
+    /// Does the same as `take_line`, but always splits the line into fields.
     fn take_few_fields<'a>(&mut self, text: &'a [u8]) -> Result<Option<&'a [u8]>, LineError>
         requires draft { IsDraft self.old }
         requires going { has_ended (draft_of self.old).section ≡ false }
@@ -123,7 +124,7 @@ impl Draft {
         self.take_all_fields(text)
     }
 
-    /// Does the same as `take_line`, for a line of any number of fields.
+    /// Does the same as `take_few_fields`, in more than one scan of the line.
     fn take_all_fields<'a>(&mut self, text: &'a [u8]) -> Result<Option<&'a [u8]>, LineError>
         requires draft { IsDraft self.old }
         requires going { has_ended (draft_of self.old).section ≡ false }
@@ -137,8 +138,8 @@ impl Draft {
         Ok(Some(rest))
     }
 
-    /// Takes the next line of the text if it is a common one, and returns the bytes after it. Otherwise returns `None`
-    /// and takes nothing.
+    /// If the next line of the text is a common one, reads it into the draft and returns the bytes after it. Otherwise
+    /// returns `None` and reads nothing. An error is an allocation failure.
     #[inline]
     fn take_quick_line<'a>(&mut self, text: &'a [u8]) -> Result<Option<&'a [u8]>, AllocError>
         requires draft { IsDraft self.old }
@@ -181,7 +182,8 @@ impl Draft {
         Ok(Some(rest))
     }
 
-    /// Takes the fields of the next line.
+    /// Reads the next line, split into these fields, into the draft. The error is the first fault of the line, or an
+    /// allocation failure.
     fn take(&mut self, fields: &[&[u8]]) -> Result<(), LineError>
         requires draft { IsDraft self.old }
         requires filled { list_any is_empty (texts fields.now) ≡ false }
@@ -197,7 +199,7 @@ impl Draft {
         }
     }
 
-    /// Takes a line of the header, or a line after the end.
+    /// Reads a line of the header into the draft. A line after the end is a fault.
     fn take_header(&mut self, word: &[u8], fields: &[&[u8]]) -> Result<(), FaultKind>
         requires draft { IsDraft self.old }
         requires section { is_in_header self.old.section ≡ true }
@@ -222,7 +224,7 @@ impl Draft {
         Ok(())
     }
 
-    /// Takes the header line `workers`, the first `worker` line, or a line after the end.
+    /// Reads the line `workers` or the line `worker 0` into the draft. A line after the end is a fault.
     fn take_workers(&mut self, word: &[u8], fields: &[&[u8]]) -> Result<(), FaultKind>
         requires draft { IsDraft self.old }
         requires section { is_behind_sizes self.old.section ≡ true }
@@ -243,7 +245,7 @@ impl Draft {
         Ok(())
     }
 
-    /// Takes a line in the section of a worker: a command, the heading of the next worker or that of the plan.
+    /// Reads a line in the section of a worker: a command, the heading of the next worker, or the heading of the plan.
     fn take_in_script(
         &mut self,
         worker: u32,
@@ -269,7 +271,7 @@ impl Draft {
         Ok(())
     }
 
-    /// Takes a line in the section of the plan: a line of the plan, or the end.
+    /// Reads a line in the section of the plan: a line of the plan, or the line `end`.
     fn take_in_plan(&mut self, word: &[u8], fields: &[&[u8]]) -> Result<(), LineError>
         requires section { self.old.section ≡ Section.Plan }
         requires draft { IsDraft self.old }
@@ -285,7 +287,7 @@ impl Draft {
         Ok(())
     }
 
-    /// Returns the job, once its last line was read.
+    /// Returns the job. The line `end` must have been read.
     pub(crate) fn finish(self) -> Job
         requires draft { IsDraft self }
         requires ended { has_ended (draft_of self).section ≡ true }
@@ -312,7 +314,8 @@ impl Draft {
     }
 }
 
-/// Checks that the one field of a line is this number.
+/// Checks that the line has one field after its word, and that this field is `number`. The error is WORD if the number
+/// of fields isn't one, and NUMBER if the field is anything else.
 fn check_number(fields: &[&[u8]], number: u32) -> Result<(), FaultKind>
     ensures ok { OnOk result (number_field_in number (texts fields.now) ≡ Ok number) }
     ensures err { IfErr result (λ kind. number_field_in number (texts fields.now) ≡ Err kind) }
@@ -322,7 +325,7 @@ fn check_number(fields: &[&[u8]], number: u32) -> Result<(), FaultKind>
     Ok(())
 }
 
-/// The version of this number.
+/// Returns the version with this number.
 fn version_of(number: u32) -> Version
     ensures { result ≡ version_of number }
 {

@@ -1,4 +1,4 @@
-//! Why a line, or a file, can't be read.
+//! The errors of reading a line or a file.
 ghost use Rattle.std.specs.Prelude.{◌≡◌};
 ghost use Rattle.mesh_job.specs.declared.faults.LineError.{LineError};
 ghost use Rattle.mesh_job.specs.declared.faults.ReadFault.{ReadFault};
@@ -7,24 +7,24 @@ use model_words::{FaultKind, TextFault};
 use std::alloc::AllocError;
 use thiserror::Error;
 
-/// Why a line could not be read.
+/// The reason for which a line could not be read.
 #[derive(Clone, Copy, Debug, PartialEq, Eq, Error)]
 pub enum LineError {
     /// The line has a fault.
     #[error("{0}")]
     Kind(FaultKind),
-    /// An allocation failed while memory for the result was extended.
+    /// A memory allocation for the result failed.
     #[error("out of memory")]
     Memory,
 }
 
-/// Why a job file gave no job.
+/// The reason for which a job file could not be read.
 #[derive(Clone, Copy, Debug, PartialEq, Eq, Error)]
 pub enum ReadFault {
-    /// The text has a fault; this is its first one.
+    /// The first fault of the text.
     #[error("{0}")]
     Text(TextFault),
-    /// An allocation failed while the job was extended.
+    /// A memory allocation for the job failed.
     #[error("out of memory")]
     Memory,
 }

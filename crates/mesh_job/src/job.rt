@@ -5,7 +5,7 @@ use crate::{Plan, Script};
 use model_words::Version;
 use std::marker::Model;
 
-/// The scripts of a job's workers, 1 to 64 of them. Worker `w` has the script at place `w`.
+/// The scripts of a job's workers. A job has 1 to 64 workers. The script of worker `w` has index `w`.
 #[derive(Drop)]
 pub struct Scripts {
     scripts: Vec<Script>,
@@ -23,7 +23,7 @@ impl Model for Scripts {
 }
 
 impl Scripts {
-    /// The scripts of workers 0, 1, .. in this order.
+    /// Returns the scripts of workers 0, 1, .. in this order. There must be 1 to 64 scripts.
     pub fn new(scripts: Vec<Script>) -> Self
         requires some { 1 ≤ length scripts.items }
         requires few { length scripts.items ≤ 64 }
@@ -32,7 +32,7 @@ impl Scripts {
         Scripts { scripts }
     }
 
-    /// How many workers there are.
+    /// Returns the number of workers, 1 to 64.
     pub fn count(&self) -> usize
         ensures value { result ≡ length self.now }
         ensures some { 1 ≤ result }
@@ -41,7 +41,7 @@ impl Scripts {
         self.scripts.len()
     }
 
-    /// The script of worker `worker`.
+    /// Returns the script of worker `worker`.
     pub fn of(&self, worker: u32) -> &Script
         requires { worker < length self.now }
         ensures { result.now ≡ slice_index_or self.now worker result.now }
@@ -50,20 +50,21 @@ impl Scripts {
     }
 }
 
-/// A job: the size of a heap, the scripts of the workers that use it, and the plan by which they take turns.
+/// A job: the size of a heap, the scripts of the workers that use the heap, and the plan, which gives the order of
+/// their attempts.
 ///
-/// The type's invariant keeps the limits: 1 to 4,096 pages, and a journal of at most 65,536 entries. The plan runs only
+/// The type's invariant limits a job to 1 to 4,096 pages and a journal of at most 65,536 entries. The plan runs only
 /// existing workers and has only lines of the job's version. The limits are this project's own choice.
 pub struct Job {
-    /// The version of the job's file.
+    /// The version of the job file.
     pub version: Version,
-    /// How many physical pages the arena has.
+    /// The number of physical pages of the arena.
     pub pages: u32,
-    /// How many entries the journal has room for.
+    /// The number of entries that the journal has room for.
     pub history: u32,
     /// The commands of each worker.
     pub scripts: Scripts,
-    /// What is done, line by line.
+    /// The attempts of the workers and the calls of the mesher, in their order.
     pub plan: Plan,
 }
 

@@ -8,11 +8,11 @@ use std::marker::Model;
 /// A search for pairs of groups that can be meshed.
 #[derive(Drop)]
 pub struct Search {
-    /// The class whose groups are paired.
+    /// The class of the groups that are paired.
     pub class: Class,
     /// The greatest number of rounds.
     pub rounds: u32,
-    /// The words that shuffle the groups, at most 32.
+    /// The words that shuffle the candidates, at most 32.
     pub words: Vec<u64>,
 }
 
@@ -21,7 +21,7 @@ pub struct Search {
 pub enum PlanLine {
     /// `Run(w)`: worker `w` attempts its next command.
     Run(u32),
-    /// A search for pairs of groups that can be meshed. It changes nothing.
+    /// A search for pairs of groups that can be meshed. The search changes nothing.
     Pair(Box<Search>),
     /// A mesh of the group `source` into the group `destination` begins.
     Begin {
@@ -45,7 +45,7 @@ pub enum PlanLine {
         /// The number of the destination.
         destination: u32,
     },
-    /// An empty group's pages are freed.
+    /// The pages of the empty group with this number are freed.
     Sweep(u32),
     /// The counts of the heap are reported.
     Report,
@@ -68,14 +68,14 @@ impl Model for Plan {
 }
 
 impl Plan {
-    /// A plan of these lines.
+    /// Returns a plan of these lines.
     pub fn new(lines: Vec<PlanLine>) -> Self
         ensures { result ≡ map line_of lines.items }
     {
         Plan { lines }
     }
 
-    /// The lines, from the first.
+    /// Returns the lines of the plan in their order.
     pub fn lines(&self) -> &[PlanLine]
         ensures { map line_of result.now ≡ self.now }
     {

@@ -1,4 +1,4 @@
-//! The lines of a plan: the fields of each, from left to right.
+//! The lines of a plan: the fields of each line, from left to right.
 ghost use Rattle.std.specs.Prelude.{◌≡◌, ◌≤◌, ◌↔◌, ℕ, false, true, codes, Ok, Err, IfOk, IfErr, IsTrue, IsSome};
 ghost use Rattle.model_words.specs.Classes.{row_of};
 ghost use Rattle.model_jobs.specs.JobFiles.{are_same, class_in, groups_in, line_in, of_class_in, of_groups_in, of_mesh_in, pair_in, run_in, sweep_in, words_in};
@@ -27,9 +27,13 @@ const MAX_WORDS: usize = 32;
 
 /// Reads the line of a plan with this word and these fields, in a job of `workers` workers.
 ///
-/// WORD if the version has no such line, or if it has another number of fields. A `pair` has at most 32 words. NUMBER
-/// if a field is misspelt or out of range: a worker's number is below `workers`, a group's at most 65,535, a class is
-/// named by its size, and a search has at most 64 rounds. `Memory` if a `pair` couldn't allocate its search.
+/// The error is one of the following:
+///
+/// - WORD, if the version has no line with this word, or if the number of fields is wrong. A `pair` has at most 32
+///   words.
+/// - NUMBER, if a field is misspelt or out of its range. A worker's number is below `workers`, and a group's number is
+///   at most 65,535. A class is named by its size. A search has at most 64 rounds.
+/// - `Memory`, if the allocation of the search of a `pair` fails.
 pub fn plan_line(
     alloc: Global,
     version: Version,
@@ -49,7 +53,7 @@ pub fn plan_line(
     Ok(line)
 }
 
-/// Does the same as `plan_line`, for every line except that of a search.
+/// Does the same as `plan_line` for each line except a `pair`, whose `word` isn't allowed here.
 fn short_line(
     version: Version,
     workers: u32,
@@ -98,7 +102,7 @@ fn run_of(workers: u32, fields: &[&[u8]]) -> Result<PlanLine, FaultKind>
     Ok(PlanLine::Run(worker))
 }
 
-/// `SRC DST`, the two groups of a mesh
+/// Reads `SRC DST`, the two groups of a mesh.
 fn groups_of(fields: &[&[u8]]) -> Result<(u32, u32), FaultKind>
     ensures { result ≡ groups_in (texts fields.now) }
 {
@@ -117,22 +121,23 @@ fn sweep_of(fields: &[&[u8]]) -> Result<PlanLine, FaultKind>
     Ok(PlanLine::Sweep(group))
 }
 
-/// `step` in version 1, and `step CLASS` in version 2
+/// `step` in version 1, and `step CLASS` in version 2.
 fn step_of(version: Version, fields: &[&[u8]]) -> Result<PlanLine, FaultKind>
     ensures { read_line result ≡ of_mesh_in version StepMesh StepClass (texts fields.now) }
 {
     Ok(mesh_class(version, fields)?.map_or(PlanLine::Step, PlanLine::StepClass))
 }
 
-/// `cancel` in version 1, and `cancel CLASS` in version 2
+/// `cancel` in version 1, and `cancel CLASS` in version 2.
 fn cancel_of(version: Version, fields: &[&[u8]]) -> Result<PlanLine, FaultKind>
     ensures { read_line result ≡ of_mesh_in version CancelMesh CancelClass (texts fields.now) }
 {
     Ok(mesh_class(version, fields)?.map_or(PlanLine::Cancel, PlanLine::CancelClass))
 }
 
-/// The class whose mesh a line names: none in version 1, which has one mesh at a time, and the class of the line's one
-/// field in version 2.
+/// Returns the class that a `step` or `cancel` line names in its one field in version 2. Returns `None` in version 1,
+/// in which the line has no field. The error is WORD if the number of fields is wrong, and NUMBER if the field isn't
+/// the size of a class.
 fn mesh_class(version: Version, fields: &[&[u8]]) -> Result<Option<Class>, FaultKind>
     ensures ok { IfOk result
         (λ class. (bare : Line) (line : ℕ → Line)
@@ -149,7 +154,8 @@ fn mesh_class(version: Version, fields: &[&[u8]]) -> Result<Option<Class>, Fault
     }
 }
 
-/// The one field of a line, which is the size of a class.
+/// Returns the class whose size is the one field of a line. The error is WORD if the number of fields isn't one, and
+/// NUMBER if the field isn't the size of a class.
 fn class_field(fields: &[&[u8]]) -> Result<Class, FaultKind>
     ensures ok { IfOk result (λ class. (line : ℕ → Line) → of_class_in line (texts fields.now) ≡ Ok (line class)) }
     ensures err { IfErr result (λ kind. (line : ℕ → Line) → of_class_in line (texts fields.now) ≡ Err kind) }
@@ -172,7 +178,7 @@ fn pair_of(alloc: Global, fields: &[&[u8]]) -> Result<PlanLine, LineError>
     search_of(alloc, *size, *rounds, words)
 }
 
-/// The search with these fields. The fields from the third on are its words.
+/// Returns the search with these fields: the size of its class, its greatest number of rounds, and its words.
 fn search_of(
     alloc: Global,
     size: &[u8],
@@ -194,7 +200,7 @@ fn search_of(
     Ok(PlanLine::Pair(asked))
 }
 
-/// The class of a field that is its size. NUMBER if no class has this size.
+/// Returns the class whose size the field spells. The error is NUMBER if the field doesn't spell the size of a class.
 fn class(field: &[u8]) -> Result<Class, FaultKind>
     ensures { result ≡ class_in field.now }
 {
@@ -205,7 +211,7 @@ fn class(field: &[u8]) -> Result<Class, FaultKind>
     class_of(size as u32).map_err(|_| FaultKind::Number)
 }
 
-/// Whether a class has this size.
+/// Whether some class has this size.
 pub(crate) fn is_class(size: u64) -> bool
     ensures { IsTrue result ↔ IsSome (row_of size) }
 {
@@ -215,7 +221,7 @@ pub(crate) fn is_class(size: u64) -> bool
     }
 }
 
-/// The words of a search.
+/// Reads the words of a search. The error is a fault of the fields, or an allocation failure.
 fn search_words(alloc: Global, fields: &[&[u8]]) -> Result<Vec<u64>, LineError>
     ensures ok { IfOk result (λ words. words_in (texts fields.now) ≡ Ok words.items) }
     ensures err { IfErr result (IsFaultOfStep (words_in (texts fields.now))) }

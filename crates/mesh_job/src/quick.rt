@@ -1,5 +1,7 @@
-//! The lines that are common in texts, each read in one pass over the text. Each function returns the bytes after the
-//! line's end too. `None` if a line isn't one of these, or is unusual in any way: then it is read field by field.
+//! The lines that are common in texts, each read in one pass over the text.
+//!
+//! Each function also returns the bytes after the line end. A function returns `None` if the line isn't of its kind, or
+//! is unusual in any way. The line is then read field by field.
 ghost use Rattle.std.specs.Prelude.{◌≡◌, ◌∷◌, ◌++◌, ◌≤◌, ℕ, codes, decimal, IfSome, IsSome};
 ghost use Rattle.model_words.specs.Classes.{row_of};
 ghost use Rattle.model_words.specs.declared.versions.Version.{Version};
@@ -12,13 +14,13 @@ use mesh_class::{Class, class_of};
 use mesh_fields::quick::{address, behind, byte, bytes, cell, number, word};
 use model_words::{Command, Version};
 
-/// The greatest length that a `new` may ask for, and the greatest offset of a `put` or a `get`.
+/// The greatest length of a `new`, and the greatest offset of a `put` or a `get`.
 const MAX_LENGTH: u32 = 65_535;
 
-/// Reads the text's first line as a command, and returns the text after that line's end too.
+/// Reads the first line of the text as a command, and returns the command and the text after the line end.
 ///
-/// `None` for a line without its end, for a line with a fault, and for any line that is not one of the common ones.
-/// Such lines are cut into fields.
+/// Returns `None` if the line has no line end, has a fault, or isn't a common line. Such a line is then split into
+/// fields.
 pub fn quick_command(text: &[u8]) -> Option<(Command, &[u8])>
     ensures { IfSome result (λ read. IsQuickCommand text.now read.0 read.1.now) }
 {
@@ -30,7 +32,7 @@ pub fn quick_command(text: &[u8]) -> Option<(Command, &[u8])>
     }
 }
 
-/// Does the same as `quick_command`, for a command whose fields are cells alone, and for a command of an address.
+/// Does the same as `quick_command`, for a command that has only cells as fields, and for a command on an address.
 #[inline]
 fn cells_command(text: &[u8]) -> Option<(Command, &[u8])>
     ensures { IfSome result (λ read. IsQuickCommand text.now read.0 read.1.now) }
@@ -55,7 +57,8 @@ fn address_command(text: &[u8]) -> Option<(Command, &[u8])>
     }
 }
 
-/// `CELL SIZE` and a space after them: a root cell, and a length or an offset. Returns the bytes after the space too.
+/// Reads `CELL SIZE ` with both spaces: a root cell, and a length or an offset. Returns the cell, the size and the
+/// remaining bytes.
 #[inline]
 fn cell_and_size(fields: &[u8]) -> Option<(u8, u32, &[u8])>
     ensures spelt { IfSome result (λ read. fields.now ≡ decimal read.0 ++ 32 ∷ decimal read.1 ++ 32 ∷ read.2.now) }
@@ -66,7 +69,7 @@ fn cell_and_size(fields: &[u8]) -> Option<(u8, u32, &[u8])>
     Some((cell, size, rest))
 }
 
-/// `CELL LEN WORD` of a `new`
+/// Reads `CELL LEN WORD` of a `new`.
 fn new_of(fields: &[u8]) -> Option<(Command, &[u8])>
     ensures { IfSome result (λ read. IsQuickCommand (codes "new" ++ 32 ∷ fields.now) read.0 read.1.now) }
 {
@@ -75,7 +78,7 @@ fn new_of(fields: &[u8]) -> Option<(Command, &[u8])>
     Some((Command::New(to, len, word), rest))
 }
 
-/// `CELL OFF HEX` of a `put`
+/// Reads `CELL OFF HEX` of a `put`.
 fn put_of(fields: &[u8]) -> Option<(Command, &[u8])>
     ensures { IfSome result (λ read. IsQuickCommand (codes "put" ++ 32 ∷ fields.now) read.0 read.1.now) }
 {
@@ -84,7 +87,7 @@ fn put_of(fields: &[u8]) -> Option<(Command, &[u8])>
     Some((Command::Put(of, off, stored), rest))
 }
 
-/// `CELL OFF LEN` of a `get`
+/// Reads `CELL OFF LEN` of a `get`.
 fn get_of(fields: &[u8]) -> Option<(Command, &[u8])>
     ensures { IfSome result (λ read. IsQuickCommand (codes "get" ++ 32 ∷ fields.now) read.0 read.1.now) }
 {
@@ -93,7 +96,7 @@ fn get_of(fields: &[u8]) -> Option<(Command, &[u8])>
     Some((Command::Get(of, off, len), rest))
 }
 
-/// `CELL` of a `free`
+/// Reads `CELL` of a `free`.
 fn free_of(fields: &[u8]) -> Option<(Command, &[u8])>
     ensures { IfSome result (λ read. IsQuickCommand (codes "free" ++ 32 ∷ fields.now) read.0 read.1.now) }
 {
@@ -101,7 +104,7 @@ fn free_of(fields: &[u8]) -> Option<(Command, &[u8])>
     Some((Command::Free(of), rest))
 }
 
-/// `CELL FROM` of an `alias`
+/// Reads `CELL FROM` of an `alias`.
 fn alias_of(fields: &[u8]) -> Option<(Command, &[u8])>
     ensures { IfSome result (λ read. IsQuickCommand (codes "alias" ++ 32 ∷ fields.now) read.0 read.1.now) }
 {
@@ -110,7 +113,7 @@ fn alias_of(fields: &[u8]) -> Option<(Command, &[u8])>
     Some((Command::Alias(to, from), rest))
 }
 
-/// `CELL` of an `addr`
+/// Reads `CELL` of an `addr`.
 fn addr_of(fields: &[u8]) -> Option<(Command, &[u8])>
     ensures { IfSome result (λ read. IsQuickCommand (codes "addr" ++ 32 ∷ fields.now) read.0 read.1.now) }
 {
@@ -118,7 +121,7 @@ fn addr_of(fields: &[u8]) -> Option<(Command, &[u8])>
     Some((Command::Addr(at), rest))
 }
 
-/// `ADDR` of a `peek`
+/// Reads `ADDR` of a `peek`.
 fn peek_of(fields: &[u8]) -> Option<(Command, &[u8])>
     ensures { IfSome result (λ read. IsQuickCommand (codes "peek" ++ 32 ∷ fields.now) read.0 read.1.now) }
 {
@@ -126,7 +129,7 @@ fn peek_of(fields: &[u8]) -> Option<(Command, &[u8])>
     Some((Command::Peek(at), rest))
 }
 
-/// `ADDR BYTE` of a `poke`
+/// Reads `ADDR BYTE` of a `poke`.
 fn poke_of(fields: &[u8]) -> Option<(Command, &[u8])>
     ensures { IfSome result (λ read. IsQuickCommand (codes "poke" ++ 32 ∷ fields.now) read.0 read.1.now) }
 {
@@ -135,8 +138,8 @@ fn poke_of(fields: &[u8]) -> Option<(Command, &[u8])>
     Some((Command::Poke(at, stored), rest))
 }
 
-/// Reads the text's first line as a line of a plan, in a job of `workers` workers, and returns the text after that
-/// line's end too. `None` as in `quick_command`.
+/// Reads the first line of the text as a line of a plan, in a job of `workers` workers. Returns the line and the text
+/// after the line end. Returns `None` if the line has no line end, has a fault, or isn't a common line.
 pub fn quick_line(text: &[u8], version: Version, workers: u32) -> Option<(PlanLine, &[u8])>
     requires { 1 ≤ workers }
     ensures { IfSome result (λ read. IsQuickLine version workers text.now read.0 read.1.now) }
@@ -148,7 +151,7 @@ pub fn quick_line(text: &[u8], version: Version, workers: u32) -> Option<(PlanLi
     }
 }
 
-/// `WORKER` of a `run`
+/// Reads `WORKER` of a `run`.
 #[inline]
 fn run_of(fields: &[u8], workers: u32) -> Option<(PlanLine, &[u8])>
     requires { 1 ≤ workers }
@@ -159,7 +162,7 @@ fn run_of(fields: &[u8], workers: u32) -> Option<(PlanLine, &[u8])>
     Some((PlanLine::Run(worker), rest))
 }
 
-/// The rest of a line after `step`: nothing in version 1, and the size of a class in version 2
+/// Reads the rest of a line after `step`: nothing in version 1, and the size of a class in version 2.
 fn step_of(fields: &[u8], version: Version) -> Option<(PlanLine, &[u8])>
     ensures { IfSome result
         (λ read. (workers : ℕ) → IsQuickLine version workers (codes "step" ++ fields.now) read.0 read.1.now) }
@@ -173,7 +176,7 @@ fn step_of(fields: &[u8], version: Version) -> Option<(PlanLine, &[u8])>
     }
 }
 
-/// `CLASS` of a `step`
+/// Reads `CLASS` of a `step`.
 #[inline]
 fn class_step_of(fields: &[u8]) -> Option<(PlanLine, &[u8])>
     ensures { IfSome result
@@ -185,7 +188,7 @@ fn class_step_of(fields: &[u8]) -> Option<(PlanLine, &[u8])>
     Some((PlanLine::StepClass(class), rest))
 }
 
-/// The class whose size the text's first bytes spell, and the bytes after their line's end.
+/// Reads the size of a class and the line end after it. Returns the class and the remaining bytes.
 fn class(text: &[u8]) -> Option<(Class, &[u8])>
     ensures spelt { IfSome result (λ read. text.now ≡ decimal read.0 ++ 10 ∷ read.1.now) }
     ensures row { IfSome result (λ read. IsSome (row_of read.0)) }
@@ -195,7 +198,7 @@ fn class(text: &[u8]) -> Option<(Class, &[u8])>
     Some((class, rest))
 }
 
-/// The class of this size.
+/// Returns the class with this size. Returns `None` if no class has this size.
 #[inline]
 fn class_sized(size: u32) -> Option<Class>
     ensures size { IfSome result (λ class. class ≡ size) }

@@ -13,11 +13,11 @@ use std::alloc::{AllocError, Global};
 /// The greatest number of bytes of a job file.
 pub const MAX_FILE_BYTES: usize = 1_048_576;
 
-/// Reads the job that a file's bytes spell.
+/// Reads a job file.
 ///
-/// The lines are read in order. The error for the first line with a fault has its number, from 1, and the first kind of
-/// `FaultKind` that holds for it. The file's length is tested before any line. `Memory` means that an allocation failed
-/// while the job was extended.
+/// If the file has more than 1,048,576 bytes, the error is TOO_LONG with line 0. Otherwise the lines are read in order,
+/// and the error is the first fault of the first line with a fault. The error has the line's number, from 1, and the
+/// first kind of `FaultKind` that applies to the line. The error is `Memory` if a memory allocation for the job failed.
 ///
 /// The format of the file is this project's own choice.
 pub fn read_file(alloc: Global, bytes: &[u8]) -> Result<Job, ReadFault>
@@ -29,15 +29,15 @@ pub fn read_file(alloc: Global, bytes: &[u8]) -> Result<Job, ReadFault>
     Reading::new(alloc).finish(bytes)
 }
 
-/// A job file that is being read, piece by piece. After an allocation failure it can't be read further.
+/// A job file that is being read in pieces. After an allocation failure, reading can't go on.
 pub struct Reading {
-    /// The job as read from the lines that were taken.
+    /// The part of the job that was already read.
     draft: Draft,
     /// The number of the next line.
     number: u32,
-    /// How many bytes were taken.
+    /// The number of bytes that were taken.
     taken: usize,
-    /// The file's first fault, once it was found.
+    /// The first fault of the file, if a fault was found.
     fault: Option<TextFault>,
 }
 
@@ -47,7 +47,7 @@ impl Drop for Reading {
 }
 
 impl Reading {
-    /// A reading that has taken nothing of its file.
+    /// Returns a reading that has taken no byte of its file.
     pub fn new(alloc: Global) -> Self
         ensures { HasTaken result [] }
     {
@@ -59,9 +59,10 @@ impl Reading {
         }
     }
 
-    /// Takes the whole lines at the beginning of the file's next bytes, and returns how many bytes they have. The bytes
-    /// that it leaves, at most 1,024, begin a line: pass them to the next call again, with what follows them. If the
-    /// file has a fault or its last line was taken, it takes all bytes. An error is an allocation failure.
+    /// Takes the whole lines at the start of the file's next bytes, and returns the number of bytes of these lines. At
+    /// most 1,024 bytes are left, which begin a line. Pass them to the next call again, followed by the file's next
+    /// bytes. If the file has a fault or its line `end` was taken, all bytes are taken. An error is an allocation
+    /// failure.
     pub fn take(&mut self, bytes: &[u8]) -> Result<usize, AllocError>
         requires sound { IsReading self.old }
         requires most { bytes_taken self.old + length bytes.now ≤ 1048577 }
@@ -81,7 +82,7 @@ impl Reading {
         Ok(count)
     }
 
-    /// Takes the whole lines at the beginning of some bytes, as `take` does, and returns the bytes that it leaves.
+    /// Takes the whole lines at the start of some bytes, as `take` does, and returns the bytes that are left.
     fn take_lines<'a>(&mut self, bytes: &'a [u8]) -> Result<&'a [u8], AllocError>
         requires sound { IsReading self.old }
         requires going { self.old.fault ≡ None }
@@ -114,7 +115,7 @@ impl Reading {
         Ok(&[])
     }
 
-    /// A fault of this kind in the next line.
+    /// Returns a fault of this kind in the next line.
     fn fault_of_line(&self, kind: FaultKind) -> TextFault
         ensures { result ≡ record { line = self.now.number; kind = kind } }
     {
@@ -124,10 +125,10 @@ impl Reading {
         }
     }
 
-    /// Takes the last bytes of the file, and returns its job.
+    /// Takes the last bytes of the file, and returns the file's job.
     ///
-    /// TOO_LONG, with line 0, comes if and only if the file has more than 1,048,576 bytes. Otherwise the error is the
-    /// first fault of its lines. `Memory` means that an allocation failed while the job was extended.
+    /// The error is TOO_LONG, with line 0, if and only if the file has more than 1,048,576 bytes. Otherwise it is the
+    /// first fault of the file's lines, or `Memory` if a memory allocation for the job failed.
     pub fn finish(mut self, rest: &[u8]) -> Result<Job, ReadFault>
         requires { IsReading self }
         ensures ok { IfOk result (λ job. (text : List ℕ) → HasTaken self text → read_text (text ++ rest.now) ≡ Ok job) }

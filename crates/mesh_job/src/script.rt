@@ -1,4 +1,4 @@
-//! One worker's commands.
+//! `Script`, the commands of one worker.
 ghost use Rattle.std.specs.Prelude.{◌≡◌, ◌<◌, ◌^◌, [], ◌∷◌, ◌++◌, length, slice_get, ◌↔◌, IsTrue, IfErr, IfOk, Ok, OnOk, OnErr, IfSome};
 ghost use Rattle.model_words.specs.Commands.{IsInRange};
 ghost use Rattle.model_jobs.specs.JobFiles.{command_in};
@@ -13,16 +13,16 @@ use std::alloc::{AllocError, Global};
 use std::marker::Model;
 use std::mem;
 
-/// The greatest number of bytes that the commands of a script store together.
+/// The greatest number of stored bytes with which a script still accepts a command.
 const MAX_KEPT: usize = 0xffff_ffff;
 
-/// The commands of one worker, in the order in which it attempts them.
+/// The commands of one worker, in the order in which the worker attempts them.
 ///
-/// Each command that stores or loads bytes has 1 to 32 of them, so each may be passed to the heap. A command takes 16
-/// bytes, and the bytes that it stores are kept in a separate list.
+/// Each command that stores, loads or copies bytes does so with 1 to 32 of them, so each command may be passed to the
+/// heap. A command takes 16 bytes. The bytes that commands store are kept in a separate list.
 pub struct Script {
     commands: Vec<PackedCommand>,
-    /// The bytes that the commands store, one command's after another's.
+    /// The bytes that the commands store, in the order of the commands.
     bytes: Vec<u8>,
 }
 
@@ -45,7 +45,7 @@ impl Drop for Script {
 }
 
 impl Script {
-    /// A script without a command. It allocates nothing.
+    /// Returns a script without commands. It allocates nothing.
     pub fn new(alloc: Global) -> Self
         ensures { result ≡ [] }
     {
@@ -55,7 +55,8 @@ impl Script {
         }
     }
 
-    /// Appends a command. An error is an allocation failure, or means that the script's commands store 4 GiB.
+    /// Appends a command. Returns an error if an allocation fails, or if the script's commands already store 4 GiB or
+    /// more. The script is then unchanged.
     pub fn push(&mut self, command: &Command) -> Result<(), AllocError>
         requires { IsInRange command.now }
         ensures ok { OnOk result (self.new ≡ self.old ++ command.now ∷ []) }
@@ -71,21 +72,21 @@ impl Script {
         Ok(())
     }
 
-    /// How many commands there are.
+    /// Returns the number of commands.
     pub fn len(&self) -> usize
         ensures { result ≡ length self.now }
     {
         self.commands.len()
     }
 
-    /// Whether there is no command.
+    /// Whether the script has no command.
     pub fn is_empty(&self) -> bool
         ensures { IsTrue result ↔ (self.now ≡ []) }
     {
         self.commands.is_empty()
     }
 
-    /// The command at a place, counted from 0, or `None` past the end. It allocates nothing.
+    /// Returns the command at index `place`. Returns `None` if the script has no such index. It allocates nothing.
     pub fn get(&self, place: usize) -> Option<Command>
         ensures value { result ≡ slice_get self.now place }
         ensures within { IfSome result (λ _. place < length self.now) }
@@ -108,7 +109,7 @@ impl Script {
     }
 }
 
-/// Appends the command of a line with this word and these fields.
+/// Appends the command of a line with this word and these fields. The error is a fault of the line, or `Memory`.
 pub(crate) fn push_line(
     script: &mut Script,
     version: Version,
@@ -123,7 +124,8 @@ pub(crate) fn push_line(
     Ok(())
 }
 
-/// Appends the script that was read to the finished scripts, and begins another.
+/// Appends the script to the finished scripts, and replaces it by an empty script. The error is `Memory` if an
+/// allocation fails.
 pub(crate) fn close_script(
     alloc: Global,
     script: &mut Script,

@@ -5,7 +5,7 @@ ghost use Rattle.mesh_fields.specs.KeptLines.{IsUnended};
 use mesh_fields::lines::MAX_LINE_BYTES;
 use std::alloc::{AllocError, Global};
 
-/// Bytes of a line: at most the length of a line, and no line end among them.
+/// At most 1,024 bytes of a line, without its line end.
 #[derive(Drop)]
 pub struct BegunLine {
     bytes: Vec<u8>,
@@ -14,7 +14,7 @@ pub struct BegunLine {
 }
 
 impl BegunLine {
-    /// Creates an empty line. It allocates nothing.
+    /// Returns an empty line. The call allocates nothing.
     pub fn new(alloc: Global) -> BegunLine
         ensures { result.bytes.items ≡ [] }
     {
@@ -37,14 +37,14 @@ impl BegunLine {
         self.bytes.as_slice()
     }
 
-    /// How many more bytes a line may have.
+    /// Returns how many more bytes the line may have. The maximum of a line is 1,024 bytes.
     pub fn room(&self) -> usize
         ensures { result ≡ 1024 - length self.now.bytes.items }
     {
         MAX_LINE_BYTES - self.bytes.len()
     }
 
-    /// Adds bytes of the line; there must be room for them. An error is an allocation failure.
+    /// Adds bytes to the line, which must have room for them. Returns an error if an allocation fails.
     pub fn add(&mut self, bytes: &[u8]) -> Result<(), AllocError>
         requires room { length bytes.now ≤ 1024 - length self.old.bytes.items }
         requires unended { IsUnended bytes.now }

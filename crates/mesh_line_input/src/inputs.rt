@@ -1,4 +1,4 @@
-//! The lines of a device.
+//! Reads the lines of a text from a device.
 ghost use Rattle.std.specs.Prelude.{◌≡◌, ◌+◌, ◌-◌, ◌<◌, ◌≤◌, ◌∷◌, ◌++◌, ℕ, List, Option, None, Some, Err, [], false, true, length, IfErr, IfOk, OnOk, IsTrue};
 ghost use Rattle.model_jobs.specs.JobFiles.{fault_at};
 ghost use Rattle.mesh_devices.specs.declared.faults.ReplayError.{ReplayError};
@@ -13,20 +13,20 @@ use mesh_fields::lines::{cut, rest_fault};
 use model_words::{FaultKind, TextFault};
 use std::alloc::{AllocError, Global};
 
-/// The lines of a text that comes from a device. A beginning of the text has been read.
+/// The lines of a text that comes from a device, after a beginning of the text was read.
 #[derive(Drop)]
 pub struct LineInput {
-    /// How many lines were read.
+    /// The number of lines read so far.
     lines: u32,
-    /// The line that was read last; during a read, the beginning of the next one.
+    /// The line that was read last. During a read, this field has the beginning of the next line.
     line: BegunLine,
-    /// The bytes after that line that have been read from the device.
+    /// The bytes after this line that were already read from the device.
     pending: Pending,
 }
 
 impl LineInput {
-    /// Creates an input of which nothing was read, with a buffer for one read of the device. An error is an allocation
-    /// failure.
+    /// Creates an input of which nothing was read, and allocates the buffer for one read of the device. Returns an
+    /// error if the allocation fails.
     pub fn new(alloc: Global) -> Result<LineInput, AllocError>
         ensures { IfOk result IsFresh }
     {
@@ -37,14 +37,14 @@ impl LineInput {
         })
     }
 
-    /// How many lines were read: the number of the line that was read last, from 1.
+    /// Returns the number of lines read so far. It is the number of the line that was read last, counted from 1.
     pub fn lines(&self) -> u32
         ensures { result ≡ lines_of self.now }
     {
         self.lines
     }
 
-    /// The line that was read last, without its end. It has at most 1,024 bytes.
+    /// Returns the line that was read last, without its line end. The line has at most 1,024 bytes.
     pub fn line(&self) -> &[u8]
         ensures is { result.now ≡ line_of self.now }
         ensures short { length result.now ≤ 1024 }
@@ -53,17 +53,17 @@ impl LineInput {
         self.line.as_slice()
     }
 
-    /// Reads the next line, and returns whether there is one. There is none at the end of the input.
+    /// Reads the next line, and returns `true`. Returns `false` at the end of the text.
     ///
     /// Errors:
     ///
-    /// - Text LONG_LINE: the next line has more than 1,024 bytes. It is returned as soon as they have come.
-    /// - Text TOO_LONG, of line 0: 4,294,967,295 lines were read and more bytes come.
-    /// - Text CUT: the text ends in the middle of a line or has no line.
-    /// - Read: if and only if the input failed.
-    /// - Memory: an allocation failed.
+    /// - `Text` with LONG_LINE, as soon as more than 1,024 bytes of the next line have come.
+    /// - `Text` with TOO_LONG and line 0, if 4,294,967,295 lines were read and more bytes come.
+    /// - `Text` with CUT, if the text ends within a line, or has no line.
+    /// - `Read`, if and only if the input failed.
+    /// - `Memory`, if an allocation failed.
     ///
-    /// Write is never returned. After an error the input must not be used.
+    /// `Write` is never returned. After an error, the input must not be used.
     pub fn read_line<I: Source>(&mut self, input: &mut I) -> Result<bool, ReplayError>
         requires { I.has_failed input.old ≡ false }
         ensures ok { OnOk result (I.has_failed input.new ≡ false) }
@@ -95,7 +95,8 @@ impl LineInput {
         }
     }
 
-    /// Takes the bytes of the line that have come, and returns whether its end has come.
+    /// Moves the pending bytes of the line to `line`, and returns whether the end of the line was among the pending
+    /// bytes. The errors are LONG_LINE, TOO_LONG and `Memory`, as in `read_line`.
     fn take_line(&mut self) -> Result<bool, ReplayError>
         ensures next { IfOk result (λ some. some ≡ true → IsNext self.old self.new) }
         ensures used_up { IfOk result (λ some. some ≡ false → IsUsedUp self.old self.new) }
@@ -117,7 +118,7 @@ impl LineInput {
         Ok(true)
     }
 
-    /// Checks the end of the text. An error is the fault of a text that ends here.
+    /// Checks that the text may end here. The error is the fault of a text that ends here.
     fn finish(&self) -> Result<(), ReplayError>
         ensures ok { OnOk result (end_fault (lines_of self.now) (line_of self.now) ≡ None) }
         ensures fault { IfErr result (EndsWithFault self.now) }
@@ -129,8 +130,8 @@ impl LineInput {
     }
 }
 
-/// Adds bytes to a line that has `lines` lines before it. An error is LONG_LINE if the line gets too long, or an
-/// allocation failure.
+/// Adds bytes to the line that follows `lines` lines. The error is `Text` if the line gets too long, and `Memory` if an
+/// allocation fails.
 fn keep(line: &mut BegunLine, lines: u32, bytes: &[u8]) -> Result<(), ReplayError>
     requires { IsUnended bytes.now }
     ensures ok { OnOk result (line.new.bytes.items ≡ line.old.bytes.items ++ bytes.now) }
@@ -143,7 +144,8 @@ fn keep(line: &mut BegunLine, lines: u32, bytes: &[u8]) -> Result<(), ReplayErro
     Ok(())
 }
 
-/// The fault of a text that ends after `lines` lines, with the bytes `rest` after its last line end.
+/// Returns the fault of a text that ends after `lines` lines and the further bytes `rest`. Returns `None` if the text
+/// may end there.
 fn end_fault(lines: u32, rest: &[u8]) -> Option<TextFault>
     ensures { result ≡ end_fault lines rest.now }
 {
@@ -160,7 +162,8 @@ fn end_fault(lines: u32, rest: &[u8]) -> Option<TextFault>
     Some(fault_at(lines + 1, rest_fault(rest)))
 }
 
-/// The fault of a line that is too long, after `lines` lines.
+/// Returns the fault of a line that is too long and follows `lines` lines: LONG_LINE, or TOO_LONG if the line is one
+/// too many.
 fn long_line(lines: u32) -> TextFault
     ensures { result ≡ long_line lines }
 {
@@ -170,7 +173,7 @@ fn long_line(lines: u32) -> TextFault
     fault_at(lines + 1, FaultKind::LongLine)
 }
 
-/// A fault of a line.
+/// Returns the fault of this kind in the line with this number.
 fn fault_at(line: u32, kind: FaultKind) -> TextFault
     ensures { result ≡ fault_at line kind }
 {

@@ -1,10 +1,11 @@
-//! Texts whose lines are read, and texts with a fault.
+//! Tests of the reading of lines, from texts with and without a fault.
 use crate::LineInput;
 use mesh_devices::{Input, ReplayError};
 use model_words::{FaultKind, TextFault};
 use std::process::Abort;
 
-/// The first lines of a text, each followed by `|`, and why the reading stopped: `None` at the end of the text.
+/// Returns the lines of a text before its end or its first fault, each followed by `|`. Also returns this fault, or
+/// `None` at the end of the text.
 fn read(rt: &(impl Abort + AllocGlobal), text: &[u8]) -> (Vec<u8>, Option<ReplayError>) {
     let alloc = rt.alloc();
     let mut lines = LineInput::new(alloc).expect(rt, "memory");
@@ -31,7 +32,7 @@ fn lines_are_read(rt: HostRuntime) {
     assert_eq!(rt; end, None);
 }
 
-/// The fault of a line.
+/// Returns the error for a fault in a line.
 fn fault(line: u32, kind: FaultKind) -> Option<ReplayError> {
     Some(ReplayError::Text(TextFault { line, kind }))
 }

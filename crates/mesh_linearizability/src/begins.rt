@@ -25,7 +25,8 @@ use std::alloc::{AllocError, Global};
 use std::collections::BTreeMap;
 
 impl Timeline {
-    /// Applies the begin of a call to the live objects. Returns what must be done at the end of the call.
+    /// Applies the begin of a call to the live objects. Returns what must be done at the end of the call. The errors
+    /// are those of `begin`.
     pub(crate) fn begun(
         &mut self,
         number: u32,
@@ -50,7 +51,8 @@ impl Timeline {
         }
     }
 
-    /// Takes the begin of a `free`: the object of the cell is no longer live. Returns what must be done at its end.
+    /// Handles the begin of a `free`: the object of the cell is no longer live. Returns what must be done at the end of
+    /// the `free`. Returns an error if an allocation fails.
     fn free_begun(&mut self, cell: u32) -> Result<Pending, AllocError>
         ensures waiting { self.new.waiting ≡ self.old.waiting }
         ensures begun { IfOk result
@@ -68,7 +70,8 @@ impl Timeline {
         Ok(Pending::Free(cell))
     }
 
-    /// The flaw of a `free` of a cell without a live object.
+    /// Returns the flaw of a `free` whose cell has no live object. If the cell's object was already freed, records that
+    /// a second `free` has begun. Returns an error if an allocation fails.
     fn stray_free(&mut self, cell: u32) -> Result<OutsideLife, AllocError>
         ensures waiting { self.new.waiting ≡ self.old.waiting }
         ensures lives { self.new.lives ≡ self.old.lives }
@@ -81,7 +84,8 @@ impl Timeline {
         Ok(OutsideLife::NotBeforeFree)
     }
 
-    /// Takes the begin of an access to the object of a cell. Returns what must be done at its end.
+    /// Handles the begin of an access to the object of a cell. Returns what must be done at the end of the access. The
+    /// errors are those of `Life::begin`.
     fn access_begun(
         &mut self,
         number: u32,
@@ -108,7 +112,8 @@ impl Timeline {
     }
 }
 
-/// Takes the begin of an access to the live object of a cell. Returns whether there is one.
+/// Handles the begin of an access to the live object of a cell. Returns whether the cell has a live object. The errors
+/// are those of `Life::begin`.
 fn begin_in(
     lives: &mut BTreeMap<u32, Life>,
     alloc: Global,
@@ -133,7 +138,7 @@ fn begin_in(
     Ok(true)
 }
 
-/// The recorded access to the object at an address. An error is an allocation failure.
+/// Returns the access that an entry records, to the object at this address. Returns an error if an allocation fails.
 pub fn access_of(address: u64, entry: &RecordedEntry) -> Result<Access, AllocError>
     requires access { is_access (plain_command entry.now.command) ≡ true }
     requires effect { HasEffect (plain_command entry.now.command) (plain_reply entry.now.reply) }

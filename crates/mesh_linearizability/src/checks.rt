@@ -19,14 +19,18 @@ use mesh_configurations::JudgeFault;
 use mesh_devices::Source;
 use std::alloc::Global;
 
-/// A moment after the end of each call: ends have 64 bits.
+/// A moment after the end of every call: 2^64, because ends have 64 bits.
 const LAST_MOMENT: u128 = 18_446_744_073_709_551_616;
 
 /// Judges the history of overlapping calls in the input. The verdict is `Undecided` if more than `most` configurations
-/// of an object are met at the end of a call, or if more than 64 accesses to an object are pending.
+/// of an object are met at the end of a call. It is also `Undecided` if more than 64 accesses to an object are pending.
 ///
-/// The input is read to its end, or until there is a verdict. The error is `Text` or `Order` if a line has a fault,
-/// `Read` if and only if the input failed, and `Memory` if an allocation failed.
+/// The input is read to its end, or until there is a verdict. Errors:
+///
+/// - `Text`, if a line has a fault, if the text ends within a line, or if the text has no line.
+/// - `Order`, if a call is out of order.
+/// - `Read`, if and only if the input failed.
+/// - `Memory`, if an allocation failed.
 pub fn check_calls<I: Source>(
     alloc: Global,
     input: &mut I,
@@ -73,7 +77,8 @@ fn judge_calls<I: Source>(
     Ok(CallVerdict::Linearizable(count))
 }
 
-/// Returns the verdict if a flaw was found or the judge stopped, `None` otherwise. The error is `Memory`.
+/// Returns the verdict if a flaw was found, or if the judge stopped without a failed allocation. Returns `None` if
+/// neither happened. The error is `Memory` if the judge stopped because an allocation failed.
 fn verdict_of(found: Result<Option<Found>, Stop>) -> Result<Option<CallVerdict>, CallError>
     ensures none { IfOk result (λ verdict. IsNone verdict → found ≡ Ok None) }
     ensures told { IfOk result (λ verdict. IfSome verdict (IsTold found)) }
@@ -93,7 +98,8 @@ fn verdict_of(found: Result<Option<Found>, Stop>) -> Result<Option<CallVerdict>,
 }
 
 impl Timeline {
-    /// Takes the ends before the begin of the next call, and then this begin. Returns the first flaw that it finds.
+    /// Handles the ends before the begin of the next call, and then this begin. Returns the first flaw that is found,
+    /// or `None` if no flaw is found. The error is the reason why the judge stops.
     fn take(&mut self, number: u32, call: &TimedCall, most: usize) -> Result<Option<Found>, Stop>
         requires few { FewOpen (lives_of self.old) number }
         requires is_read { IsReadCall call.now }
@@ -112,7 +118,8 @@ impl Timeline {
         }
     }
 
-    /// Takes the remaining ends. Returns the first flaw that it finds.
+    /// Handles the remaining ends. Returns the first flaw that is found, or `None` if no flaw is found. The error is
+    /// the reason why the judge stops.
     fn finish(&mut self, most: usize) -> Result<Option<Found>, Stop>
         ensures linearizable { IfOk result
             (λ found. IsNone found → (calls : List Call) → IsKept self.old calls

@@ -22,7 +22,8 @@ use std::alloc::{AllocError, Global};
 use std::collections::BTreeMap;
 
 impl Timeline {
-    /// Takes the end of the call with this number. Returns the flaw that it finds, if there is one.
+    /// Handles the end of the call with this number. Returns the flaw that is found, or `None` if no flaw is found. The
+    /// errors are those of `Life::end`.
     pub(crate) fn ended(
         &mut self,
         number: u32,
@@ -51,7 +52,8 @@ impl Timeline {
         }
     }
 
-    /// The end of a `new` that made an object.
+    /// Handles the end of a `new` that made an object. Returns the flaw that is found, if any. Returns an error if an
+    /// allocation fails.
     fn made(&mut self, object: NewObject) -> Result<Option<Flaw>, AllocError>
         ensures waiting { self.new.waiting ≡ self.old.waiting }
         ensures ended { IfOk result
@@ -88,7 +90,8 @@ impl Timeline {
         Ok(None)
     }
 
-    /// The end of a `new` that was refused.
+    /// Handles the end of a `new` that was refused. Returns the flaw that is found, if any. Returns an error if an
+    /// allocation fails.
     fn refused(&mut self, cell: u32, len: u64, refusal: Refusal) -> Result<Option<Flaw>, AllocError>
         ensures waiting { self.new.waiting ≡ self.old.waiting }
         ensures ended { IfOk result
@@ -108,7 +111,7 @@ impl Timeline {
         Ok(None)
     }
 
-    /// The end of a `free`.
+    /// Handles the end of a `free`. Returns a flaw if a second `free` of the object has begun.
     fn free_ended(&self, cell: u32) -> Option<Flaw>
         ensures ended { IsNone result → (number : ℕ) → HasEndedSo self.now self.now number (Pending.Free cell) }
         ensures flawed { IfSome result (λ _. (number : ℕ) → IsFlawed self.now number (Pending.Free cell)) }
@@ -119,7 +122,7 @@ impl Timeline {
         None
     }
 
-    /// The end of an access.
+    /// Handles the end of an access. Returns the flaw that is found, if any. The errors are those of `Life::end`.
     fn access_ended(
         &mut self,
         number: u32,
@@ -140,8 +143,8 @@ impl Timeline {
         }
     }
 
-    /// The live object that has an address in common with a new one. If there are several, the one with the greatest
-    /// address.
+    /// Returns the live object that shares an address with a new object, or `None` if no live object does. If several
+    /// do, the result is the one with the greatest address.
     fn overlapped(&self, object: NewObject) -> Option<NewObject>
         requires { 1 ≤ object.len }
         ensures none { IsNone result → AreDisjoint (lives_of self.now) (starts_of self.now)
@@ -162,7 +165,8 @@ impl Timeline {
     }
 }
 
-/// Takes the end of an access to the live object of a cell. Returns how it ended, `None` if no such access is pending.
+/// Handles the end of an access to the live object of a cell. Returns how the access ended, or `None` if no such access
+/// is pending. The errors are those of `Life::end`.
 fn end_in(
     lives: &mut BTreeMap<u32, Life>,
     alloc: Global,
@@ -181,7 +185,7 @@ fn end_in(
     }
 }
 
-/// The cell of the live object with the greatest address that is at most this one.
+/// Returns the cell of the last live object that starts at or below `address`, or `None` if no live object does.
 fn nearest(starts: &BTreeMap<u128, u32>, address: u128) -> Option<u32>
     ensures { IsNearest (get nat_cmp starts.now) address result }
 {
@@ -196,14 +200,14 @@ fn end_of(object: NewObject) -> u128
     u128::from(object.address) + u128::from(object.len)
 }
 
-/// Whether an object may have this length.
+/// Whether an object may have this length: 1 to 2^47 bytes.
 fn is_fair_length(len: u64) -> bool
     ensures { IsTrue result ↔ ((1 ≤ len) × (len ≤ any_allocator.longest)) }
 {
     len > 0 && len <= MAX_RECORDED_LENGTH
 }
 
-/// The flaw of a `new` of this length if no allocator may refuse it for this reason.
+/// Returns the flaw of a `new` of this length that was refused for a reason that no allocator may have.
 fn unfair_refusal(len: u64, refusal: Refusal) -> Flaw {
     if len == 0 {
         return Flaw::NoByte(RecordedReply::Refused(refusal));

@@ -1,32 +1,35 @@
-//! `Flaw`, why no order of effect explains a history.
+//! `Flaw`: the reason why no order of effect explains a history.
 use crate::possible::Unexplained;
 use mesh_history::RecordedReply;
 use model_words::Refusal;
 
-/// Why no order of effect explains a history.
+/// The reason why no order of effect explains a history.
 #[derive(Drop)]
 pub enum Flaw {
     /// The call isn't between the `new` and the `free` of its object.
     Outside(OutsideLife),
-    /// The cell is that of an earlier `new`.
+    /// The cell of the `new` is also the cell of an earlier `new`.
     CellAgain,
-    /// The serial was given before.
+    /// The serial of the new object was already given to an earlier object.
     SerialAgain,
-    /// A `new` of no byte has this answer. An allocator can only refuse it as ZERO.
+    /// A `new` of 0 bytes has this answer. The only answer that an allocator may give to such a `new` is the refusal
+    /// ZERO.
     NoByte(RecordedReply),
-    /// A `new` of one byte or more is refused for this reason, which no allocator has.
+    /// A `new` of at least one byte was refused for this reason. No allocator may refuse a `new` of this length for
+    /// this reason.
     StrangeRefusal(Refusal),
-    /// The object has an address in common with a live object: the live object's serial, and the number of its `new`.
+    /// `Overlaps(serial, number)`: the new object shares an address with a live object. The live object has this
+    /// serial, and the call with this number made it.
     Overlaps(u32, u32),
     /// No order of the accesses to the object explains the answer.
     NoOrder(Unexplained),
 }
 
-/// How a call isn't between the `new` and the `free` of its object.
+/// The reason why a call isn't between the `new` and the `free` of its object.
 #[derive(Clone, Copy, PartialEq, Eq)]
 pub enum OutsideLife {
-    /// It doesn't begin after the end of the `new`.
+    /// The call doesn't begin after the end of the `new`.
     NotAfterNew,
-    /// It doesn't end before the begin of the `free`.
+    /// The call doesn't end before the begin of the `free`.
     NotBeforeFree,
 }

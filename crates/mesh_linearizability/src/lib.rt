@@ -1,7 +1,7 @@
-//! A judge of histories of overlapping calls: whether some order of effects explains them.
+//! Judges histories of overlapping calls: whether some order of effect explains all calls.
 //!
-//! `check_calls` reads a text of `history 2` from a device and returns a `CallVerdict`. A `Timeline` takes the begins
-//! and the ends of the calls in the order of time. It reads no text.
+//! `check_calls` reads a text of `history 2` from a device and returns a `CallVerdict`. A `Timeline` handles the begins
+//! and ends of calls in the order of time, and reads no text.
 #![tactic(auto)]
 
 mod begins;

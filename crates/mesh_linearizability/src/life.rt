@@ -11,26 +11,26 @@ use mesh_object_bytes::{Access, ObjectAccesses, ObjectBytes};
 use mesh_timed_judge::TimedJudge;
 use std::alloc::{AllocError, Global};
 
-/// A live object, and the judge of its accesses if there were some.
+/// A live object, with the judge of its accesses if an access has begun.
 #[derive(Drop)]
 pub struct Life {
     /// The object.
     pub object: NewObject,
-    /// The judge of its accesses.
+    /// The judge of the accesses to the object. `None` before the first access begins.
     pub judge: Option<TimedJudge<ObjectAccesses>>,
 }
 
-/// How an access ended.
+/// The result of the end of an access.
 #[derive(Drop)]
 pub enum AccessEnd {
-    /// Some configuration is left.
+    /// Some configuration is left: some order of the accesses explains the answer.
     Explained,
-    /// No configuration is left.
+    /// No configuration is left: no order of the accesses explains the answer.
     Unexplained(Unexplained),
 }
 
 impl Life {
-    /// Takes the begin of an access. No pending access may have its number.
+    /// Handles the begin of an access. No pending access may have the number `number`.
     ///
     /// The error is `TooManyPending` if 64 accesses are pending, and `Memory` if an allocation fails.
     pub fn begin(&mut self, alloc: Global, number: u32, access: Access) -> Result<(), JudgeFault>
@@ -46,7 +46,7 @@ impl Life {
         Ok(())
     }
 
-    /// Gives the object a judge if it has none. An error is an allocation failure.
+    /// Gives the object a judge if it has none. Returns an error if an allocation fails.
     fn give_judge(&mut self, alloc: Global) -> Result<(), AllocError>
         ensures object { self.new.object ≡ self.old.object }
         ensures given { OnOk result (HasJudge self.old self.new) }
@@ -60,7 +60,8 @@ impl Life {
         Ok(())
     }
 
-    /// Takes the end of the pending access with this number. Returns how it ended. `None` if no such access is pending.
+    /// Handles the end of the pending access with this number. Returns how the access ended, or `None` if no such
+    /// access is pending.
     ///
     /// The error is `TooMany` if more than `most` configurations are met, and `Memory` if an allocation fails.
     pub fn end(

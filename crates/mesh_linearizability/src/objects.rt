@@ -3,11 +3,11 @@
 /// An object that a `new` made.
 #[derive(Clone, Copy)]
 pub struct NewObject {
-    /// The number of the call.
+    /// The number of the `new`.
     pub number: u32,
     /// The cell that names the object.
     pub cell: u32,
-    /// How many bytes the object has.
+    /// The object's length in bytes.
     pub len: u64,
     /// The object's serial.
     pub serial: u32,

@@ -8,10 +8,10 @@ use mesh_object_bytes::{Access, ObjectAccesses, ObjectBytes};
 use mesh_pool::Pool;
 use model_words::{MAX_BYTES, Refusal};
 
-/// How many possible loads are kept.
+/// The maximal number of possible loads that are kept.
 pub const MOST_LOADS: usize = 8;
 
-/// An answer that no order explains, and the answers that the call could have given.
+/// An answer that no order explains, with the answers that the call could have given.
 #[derive(Drop)]
 pub struct Unexplained {
     /// The recorded answer.
@@ -29,17 +29,17 @@ pub enum Possible {
     Loads(Loads),
 }
 
-/// The least possible loads of a call, compared byte by byte.
+/// The smallest loads that a call could have returned. Loads are compared byte by byte.
 #[derive(Drop)]
 pub struct Loads {
     /// The loads in ascending order. No two are equal.
     pub least: ArrayVec<ArrayVec<u8, MAX_BYTES>, MOST_LOADS>,
-    /// Whether there are more.
+    /// Whether there are further possible loads.
     pub are_more: bool,
 }
 
-/// The recorded answer of an access to the object at an address, and the possible ones, by the configurations that were
-/// met at its end.
+/// Returns the recorded answer of an access to the object at this address, with the possible answers. The
+/// configurations that were met at the end of the access determine what is possible.
 pub(crate) fn unexplained_access(
     address: u64,
     refutation: Refutation<ObjectAccesses>,
@@ -62,7 +62,7 @@ pub(crate) fn unexplained_access(
     }
 }
 
-/// An answer for which one other answer is possible.
+/// Returns an unexplained answer with the only answer that is possible.
 fn only(answer: RecordedReply, possible: RecordedReply) -> Unexplained {
     Unexplained {
         answer,
@@ -70,7 +70,8 @@ fn only(answer: RecordedReply, possible: RecordedReply) -> Unexplained {
     }
 }
 
-/// The loads of `len` bytes from an offset on in the configurations. If the object ends before them, only a refusal.
+/// Returns the loads of `len` bytes from offset `off` in the configurations `met`. If the range ends past the object,
+/// the only possible answer is the refusal OUTSIDE.
 fn possible_loads(met: &Pool<Configuration<ObjectBytes>>, off: u64, len: u32) -> Possible {
     let mut loads = Loads {
         least: ArrayVec::new(),
@@ -85,7 +86,8 @@ fn possible_loads(met: &Pool<Configuration<ObjectBytes>>, off: u64, len: u32) ->
     Possible::Loads(loads)
 }
 
-/// Loads `len` bytes from an offset on. `None` if they end outside of the object.
+/// Returns `len` bytes of the object from offset `off` on. Returns `None` if the range ends past the object, or if
+/// `len` is above `MAX_BYTES`.
 fn load_of(state: &ObjectBytes, off: u64, len: u32) -> Option<ArrayVec<u8, MAX_BYTES>> {
     let behind = state.len().checked_sub(off)?;
     if len as usize > MAX_BYTES || u64::from(len) > behind {
@@ -95,7 +97,8 @@ fn load_of(state: &ObjectBytes, off: u64, len: u32) -> Option<ArrayVec<u8, MAX_B
 }
 
 impl Loads {
-    /// Adds a load unless it is already in the list. If the list gets too long, the greatest load is dropped.
+    /// Adds a load to the list unless the list has it. If the list was full, its greatest load is dropped, and
+    /// `are_more` becomes true.
     fn add(&mut self, load: ArrayVec<u8, MAX_BYTES>) {
         let place = self.place_of(load.as_slice());
         if let Some(there) = self.least.get(place)
@@ -113,7 +116,8 @@ impl Loads {
         self.least.insert(place, load);
     }
 
-    /// The place of the first load that isn't less than this one.
+    /// Returns the index of the first load that isn't less than `load`. If all loads are less, returns the length of
+    /// the list.
     fn place_of(&self, load: &[u8]) -> usize
         ensures { result ≤ length self.now.least.items }
     {

@@ -1,4 +1,4 @@
-//! `Timeline`, which takes calls in the order of their begins and ends.
+//! `Timeline`, which handles the begins and ends of calls in the order of time.
 ghost use Rattle.std.specs.Prelude.{◌≡◌, ◌⊎◌, ◌↔◌, ◌+◌, ◌*◌, ◌++◌, ◌∷◌, ◌<◌, ◌≤◌, ◌^◌, [], ℕ, List, IfOk, IfSome, IsNone, OnOk, Some, length};
 ghost use Rattle.std.specs.Ordering.{nat_cmp};
 ghost use Rattle.std.specs.BTreeMap.{Updates, get};
@@ -21,7 +21,8 @@ use mesh_number_set::NumberSet;
 use std::alloc::{AllocError, Global};
 use std::collections::BTreeMap;
 
-/// One more than the greatest number of a call. The key of a waiting call is its end times this, plus its number.
+/// One more than the greatest number of a call. The key of a waiting call is the call's end times `NUMBERS`, plus the
+/// call's number.
 pub(crate) const NUMBERS: u128 = 4_294_967_296;
 
 /// The calls that have begun and not ended, and the live objects.
@@ -35,17 +36,17 @@ pub struct Timeline {
     pub(crate) starts: BTreeMap<u128, u32>,
     /// The cell of each `new` that has ended.
     pub(crate) cells: NumberSet,
-    /// The serials that were given.
+    /// The serials of all objects that were made.
     pub(crate) serials: NumberSet,
     /// The cells of the objects that were freed.
     pub(crate) freed: NumberSet,
-    /// The cells of the objects of which a second `free` has begun.
+    /// The cells of the objects for which a second `free` has begun.
     pub(crate) freed_twice: NumberSet,
     pub(crate) alloc: Global,
 }
 
 impl Timeline {
-    /// Creates a timeline without calls. It allocates nothing.
+    /// Creates a timeline without calls, and allocates nothing.
     pub fn new(alloc: Global) -> Timeline
         ensures stands { Stands [] result }
         ensures few { FewOpen (lives_of result) 0 }
@@ -62,11 +63,11 @@ impl Timeline {
         }
     }
 
-    /// Takes the begin of the next call. Its arguments are the call's number, which is the number of calls that have
-    /// begun before it, its end, and its entry.
+    /// Handles the begin of the next call. `number` is the number of calls that began before this call. `end` and
+    /// `entry` are the end and the entry of this call.
     ///
-    /// The error is `TooManyPending` if 64 accesses to its object are pending, and `Memory` if an allocation fails.
-    /// After an error the timeline must not be used.
+    /// The error is `TooManyPending` if 64 accesses to the call's object are already pending, and `Memory` if an
+    /// allocation fails. After an error, the timeline must not be used.
     pub fn begin(&mut self, number: u32, end: u64, entry: &RecordedEntry) -> Result<(), JudgeFault>
         requires effect { HasEffect (plain_command entry.now.command) (plain_reply entry.now.reply) }
         requires few { FewOpen (lives_of self.old) number }
@@ -85,10 +86,11 @@ impl Timeline {
         Ok(())
     }
 
-    /// Takes the ends before a moment, in their order. Returns the first flaw that it finds.
+    /// Handles the ends before `moment`, in the order of time. Returns the first flaw that is found, or `None` if no
+    /// flaw is found.
     ///
     /// The error is `TooMany` if more than `most` configurations of an object are met at the end of a call, and
-    /// `Memory` if an allocation fails. After a flaw or an error the timeline must not be used.
+    /// `Memory` if an allocation fails. After a flaw or an error, the timeline must not be used.
     pub fn end_before(&mut self, moment: u128, most: usize) -> Result<Option<Found>, Stop>
         requires { moment ≤ 2 ^ 64 }
         ensures ended { IfOk result
@@ -106,7 +108,8 @@ impl Timeline {
     }
 }
 
-/// Removes the call with the first end if that end is before a moment. Returns its number and what must be done.
+/// Removes the waiting call with the first end, if this end is before `moment`. Returns the call's number, and what
+/// must be done at its end. Returns `None`, and changes nothing, if no waiting call ends before `moment`.
 fn first_before(waiting: &mut BTreeMap<u128, Pending>, moment: u128) -> Option<(u32, Pending)>
     requires { moment ≤ 2 ^ 64 }
     ensures some { IfSome result
@@ -122,7 +125,7 @@ fn first_before(waiting: &mut BTreeMap<u128, Pending>, moment: u128) -> Option<(
     Some(((key % NUMBERS) as u32, pending))
 }
 
-/// Inserts a value under a key. An error is an allocation failure.
+/// Inserts a value under a key. Returns an error if an allocation fails.
 pub(crate) fn set<K: Ord + Drop, T: Drop>(
     map: &mut BTreeMap<K, T>,
     key: K,
@@ -134,7 +137,7 @@ pub(crate) fn set<K: Ord + Drop, T: Drop>(
     Ok(())
 }
 
-/// Adds a number to a set unless it is already in the set. An error is an allocation failure.
+/// Adds a number to a set unless the set has it. Returns an error if an allocation fails.
 pub(crate) fn add(set: &mut NumberSet, number: u32) -> Result<(), AllocError>
     ensures { OnOk result ((n : ℕ) → Has set.new n ↔ ((n ≡ number) ⊎ Has set.old n)) }
 {

@@ -5,12 +5,12 @@ use mesh_configurations::JudgeFault;
 /// The verdict on a history of overlapping calls.
 #[derive(Drop)]
 pub enum CallVerdict {
-    /// Some order of effect explains the calls. The number is how many calls there are.
+    /// Some order of effect explains all calls. The number is the number of calls.
     Linearizable(u32),
-    /// The calls are no history, or no order of effect explains them, for the reason that the flaw gives. The flaw was
-    /// found at the end of the call of this line.
+    /// `Flawed(line, flaw)`: the calls are no history, or no order of effect explains them. The flaw is the reason. It
+    /// was found at the end of the call in this line.
     Flawed(u32, Flaw),
-    /// The judge stopped at the call of this line, for the reason that the fault gives: too many configurations, or too
-    /// many pending accesses.
+    /// `Undecided(line, fault)`: the judge stopped at the call in this line. The fault is the reason: too many
+    /// configurations, or too many pending accesses.
     Undecided(u32, JudgeFault),
 }

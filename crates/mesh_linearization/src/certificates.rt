@@ -8,7 +8,8 @@ use mesh_calls::TimedCall;
 use mesh_check::Tracked;
 use std::alloc::{AllocError, Global};
 
-/// Whether calls in this order respect time and are a legal history. An error is an allocation failure.
+/// Whether the calls in this order respect time and form a legal history. The contract states only that an answer
+/// `true` is right. An error is an allocation failure.
 pub fn is_legal_order(alloc: Global, calls: &[TimedCall], order: &[u32]) -> Result<bool, AllocError>
     requires read { All IsReadCall calls.now }
     requires places { All (λ number. number < length calls.now) order.now }

@@ -8,7 +8,8 @@ use mesh_history::SpeltCommand;
 use mesh_spelling::{add_bytes, add_decimal};
 use std::alloc::AllocError;
 
-/// Adds a command on an object, in the format of a recorded history. An error is an allocation failure, here and below.
+/// Appends a `new`, `put`, `get`, `free` or `addr` in the format of a recorded history. An error is an allocation
+/// failure.
 pub fn add_call_command(text: &mut Vec<u8>, command: &SpeltCommand) -> Result<(), AllocError>
     requires { NamesObject (plain_command command.now) }
     ensures { OnOk result (text.new.items ≡ text.old.items ++ command_text (plain_command command.now)) }

@@ -8,7 +8,7 @@ use mesh_calls::TimedCall;
 use mesh_history::SpeltCommand;
 use std::alloc::{AllocError, Global};
 
-/// The order of calls at one moment: ranges of objects are freed before they are taken again.
+/// The order of calls at one moment. A `free` comes before a `new`, so that a range is freed before it is used again.
 #[derive(Clone, Copy, PartialEq, Eq, PartialOrd, Ord)]
 pub enum Rank {
     /// A `free`.
@@ -32,7 +32,7 @@ pub struct Key {
     pub number: u32,
 }
 
-/// The numbers of the calls in the order of their points. An error is an allocation failure, here and below.
+/// Returns the numbers of the calls, sorted by their points. An error is an allocation failure.
 pub fn order_by(
     alloc: Global,
     calls: &[TimedCall],
@@ -46,7 +46,7 @@ pub fn order_by(
     numbers_of(alloc, keys.as_slice())
 }
 
-/// The keys of the calls, in the order of their numbers.
+/// Returns the keys of the calls, in the order of the calls' numbers. An error is an allocation failure.
 fn keys_of(alloc: Global, calls: &[TimedCall], points: &[Point]) -> Result<Vec<Key>, AllocError>
     requires { length calls.now < 2 ^ 32 }
     ensures { IfOk result (λ keys. map (λ key. key.number) keys.items ≡ range_with_len 0 (length calls.now)) }

@@ -1,4 +1,4 @@
-//! An order of effects that explains a linearizable history of overlapping calls, and the text of the calls in it.
+//! Finds an order of effects that explains overlapping calls, and writes the calls in this order.
 //!
 //! `linearize` finds the order, checks it, and returns it as the numbers of the calls. `history_in_order` writes the
 //! calls in that order as a `history 1`.
@@ -8,7 +8,7 @@
 //! - `objects` finds the accesses of each object, and `events` their begins and ends in time.
 //! - `kept` and `search` find an order of effects of one object's accesses.
 //! - `points` gives each call a moment of effect, and `keys` sorts the calls by these moments.
-//! - `certificates` checks the order, and `orders` does all of this.
+//! - `certificates` checks the order, and `orders` runs all these parts.
 //! - `commands` and `texts` write the lines.
 #![tactic(auto)]
 

@@ -9,16 +9,16 @@ use std::collections::BTreeMap;
 /// An object, and the calls that access it.
 #[derive(Drop)]
 pub struct Object {
-    /// How many bytes it has.
+    /// The length of the object in bytes.
     pub len: u64,
-    /// Its address.
+    /// The address of the object.
     pub address: u64,
-    /// The numbers of the calls that read or change its bytes, or return its address.
+    /// The numbers of the calls that read or change the object's bytes, or return its address.
     pub accesses: Vec<u32>,
 }
 
-/// Returns the objects by their cells. `None` if some access is to no object. An error is an allocation failure, here
-/// and below.
+/// Returns the objects by their cells. `None` if some access names a cell in which no call made an object. An error is
+/// an allocation failure.
 pub fn objects_of(
     alloc: Global,
     calls: &[TimedCall],
@@ -34,7 +34,7 @@ pub fn objects_of(
     Ok(Some(objects))
 }
 
-/// The objects that were made, without accesses.
+/// Returns the objects that calls made, by their cells and without accesses. An error is an allocation failure.
 fn made_objects(alloc: Global, calls: &[TimedCall]) -> Result<BTreeMap<u32, Object>, AllocError> {
     let mut objects = BTreeMap::new(alloc);
     for call in calls {
@@ -45,7 +45,7 @@ fn made_objects(alloc: Global, calls: &[TimedCall]) -> Result<BTreeMap<u32, Obje
     Ok(objects)
 }
 
-/// The object that a call made, with its cell.
+/// Returns the object that a call made, with its cell. `None` if the call made no object.
 fn made_object(alloc: Global, entry: &RecordedEntry) -> Option<(u32, Object)> {
     match (&entry.command, &entry.reply) {
         (SpeltCommand::New(cell, len, _), RecordedReply::Object(_, address)) => {
@@ -60,7 +60,8 @@ fn made_object(alloc: Global, entry: &RecordedEntry) -> Option<(u32, Object)> {
     }
 }
 
-/// Adds a call to its object, if it is an access. Returns whether the object exists.
+/// Adds an access to its object, and returns whether the object exists. Returns `true` for a command that isn't an
+/// access. An error is an allocation failure.
 fn add_access(
     objects: &mut BTreeMap<u32, Object>,
     number: u32,
@@ -76,7 +77,7 @@ fn add_access(
     Ok(true)
 }
 
-/// The cell of the object that a command accesses.
+/// The cell that a `put`, `get` or `addr` names. `None` for any other command.
 fn accessed_cell(command: &SpeltCommand) -> Option<u32> {
     match command {
         SpeltCommand::Put(cell, _, _) => Some(*cell),

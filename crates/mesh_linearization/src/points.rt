@@ -7,7 +7,7 @@ use mesh_calls::TimedCall;
 use mesh_history::SpeltCommand;
 use std::alloc::{AllocError, Global};
 
-/// When a call has its effect.
+/// The moment of a call's effect, and its place among the accesses of its object.
 #[derive(Clone, Copy)]
 pub struct Point {
     /// The moment.
@@ -16,11 +16,12 @@ pub struct Point {
     pub place: u64,
 }
 
-/// Returns the points of the calls. `None` if no order of some object's accesses was found.
+/// Returns the point of each call. `None` if an access is to no object, or if no order of some object's accesses was
+/// found. An error is an allocation failure.
 ///
-/// A `new` has its effect at its end, and any other call at its begin. But an access has its effect no earlier than the
-/// accesses before it in the order of its object. At the end of an access at most `most` configurations may be met. An
-/// error is an allocation failure, here and below.
+/// A `new` has its effect at its end, and any other call at its begin. But an access never has its effect earlier than
+/// the accesses that precede it in the order of its object. At the end of an access, at most `most` configurations may
+/// be met.
 pub fn points_of(
     alloc: Global,
     calls: &[TimedCall],
@@ -50,7 +51,7 @@ fn own_points(alloc: Global, calls: &[TimedCall]) -> Result<Vec<Point>, AllocErr
     Ok(points)
 }
 
-/// The point of a call, without regard to the other calls.
+/// The point of a call, without regard to the other calls: the end of a `new`, and the begin of any other call.
 fn own_point(call: &TimedCall) -> Point {
     let moment = match &call.entry.command {
         SpeltCommand::New(_, _, _) => call.end,
@@ -59,7 +60,7 @@ fn own_point(call: &TimedCall) -> Point {
     Point { moment, place: 0 }
 }
 
-/// Sets the points of an object's accesses, given in their order, so that they follow this order.
+/// Sets the points of an object's accesses so that the points follow `order`.
 fn place_accesses(calls: &[TimedCall], order: &[u32], points: &mut Vec<Point>) {
     let mut moment = 0;
     for (place, number) in order.iter().enumerate() {

@@ -1,5 +1,5 @@
-//! Tests of the orders that are found. The texts were worked out by hand from the rules; orders of random histories are
-//! checked by a replay.
+//! Tests of the orders that are found. The texts were worked out by hand from the rules. The orders of random histories
+//! are checked by a replay.
 ghost use Rattle.std.specs.Prelude.{◌<◌, ◌≤◌, ◌-◌, ◌^◌, length};
 ghost use Rattle.std.specs.List.{All};
 ghost use Rattle.mesh_calls.specs.CallWords.{IsReadCall};
@@ -41,7 +41,7 @@ fn calls_of(rt: &(impl Abort + AllocGlobal), text: &str) -> Vec<TimedCall>
     calls
 }
 
-/// The text of the calls in the order that is found. `none` if none is found.
+/// The text of the calls in the order that `linearize` finds, or `none` if it finds no order.
 fn ordered(rt: &(impl Abort + AllocGlobal), calls: &[&str]) -> Vec<u8> {
     let text = text_of(rt, calls);
     let calls = calls_of(rt, text.as_str());
@@ -198,7 +198,7 @@ fn no_order_is_found_where_there_is_none(rt: HostRuntime) {
     }
 }
 
-/// An object with `count` pending accesses.
+/// The calls of a history of one object, with `count` accesses that are pending at once.
 fn pending(rt: &(impl Abort + AllocGlobal), count: u32) -> Vec<TimedCall>
     ensures read { All IsReadCall result.items }
     ensures few { length result.items ≤ 1000 }
@@ -217,7 +217,7 @@ fn pending_accesses_are_bounded(rt: HostRuntime) {
     assert!(rt; found.is_none());
 }
 
-/// A call of a random history: it has its effect in the order of the calls.
+/// A call of a random history. The calls have their effects in the order of their numbers.
 #[derive(Clone, Copy, PartialEq, Eq, PartialOrd, Ord)]
 struct Small {
     begin: u64,
@@ -239,7 +239,8 @@ fn random(seed: &mut u64, bound: u32) -> u32
     (*seed >> 33) as u32 % bound
 }
 
-/// A call of a random history at a moment. A `put` stores a byte, and a `get` finds the current one.
+/// A call of a random history that has its effect at a moment. A `put` stores a byte, and a `get` returns the current
+/// byte.
 fn random_call(seed: &mut u64, bytes: &mut [u8; 4], number: u32, moment: u64) -> Small {
     let off = random(seed, 4) as usize;
     let kind = random(seed, 3);
@@ -297,7 +298,7 @@ fn random_history(rt: &(impl Abort + AllocGlobal), seed: &mut u64) -> Vec<TimedC
     calls_of(rt, text.as_str())
 }
 
-/// Whether the numbers are those of `count` calls, each once.
+/// Whether `order` contains each number below `count` exactly once.
 fn is_permutation(alloc: Global, count: usize, order: &[u32]) -> Result<bool, AllocError> {
     let mut sorted = order.to_vec(alloc)?;
     sorted.sort_unstable();
@@ -308,7 +309,7 @@ fn is_permutation(alloc: Global, count: usize, order: &[u32]) -> Result<bool, Al
     Ok(same)
 }
 
-/// Whether no call comes after one that began after it ended.
+/// Whether the order respects time: if a call ended before another began, the call comes first.
 fn respects_time(calls: &[TimedCall], order: &[u32]) -> bool {
     for (place, front) in order.iter().enumerate() {
         for (later, back) in order.iter().enumerate() {
@@ -326,7 +327,7 @@ fn respects_time(calls: &[TimedCall], order: &[u32]) -> bool {
     true
 }
 
-/// Whether each `get` of one byte finds the one that was stored last at its offset.
+/// Whether each `get` returns the byte that was stored last at its offset.
 fn answers_are_right(calls: &[TimedCall], order: &[u32]) -> bool {
     let mut bytes = [0u8; 4];
     for number in order {

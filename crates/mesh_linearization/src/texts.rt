@@ -14,8 +14,8 @@ use mesh_history::RecordedEntry;
 use mesh_spelling::add_decimal;
 use std::alloc::{AllocError, Global};
 
-/// The history of these calls in this order, which is given by the calls' numbers: the line `history 1`, and for each
-/// call `W COMMAND -> ANSWER`, each line with its end. An error is an allocation failure, here and below.
+/// Returns the history of the calls in the order of these numbers. The text has the line `history 1`, and then the line
+/// `W COMMAND -> ANSWER` of each call. Each line has its end. An error is an allocation failure.
 pub fn history_in_order(
     alloc: Global,
     calls: &[TimedCall],

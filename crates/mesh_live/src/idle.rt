@@ -6,7 +6,7 @@ use crate::Sizes;
 use mesh_job::{Job, Plan, Script, Scripts, Version};
 use std::alloc::{AllocError, Global};
 
-/// A job of these sizes, with no command in a script and no line in its plan. An error is an allocation failure.
+/// A job of these sizes, with empty scripts and an empty plan. An error is an allocation failure.
 pub(crate) fn idle_job(alloc: Global, sizes: &Sizes) -> Result<Job, AllocError>
     requires { HasFairSizes sizes.now }
     ensures { IfOk result (λ job. job ≡ job_of sizes.now) }

@@ -1,8 +1,8 @@
 //! A live session: a fresh heap that takes one line at a time and answers each at once.
 //!
-//! A line is an attempt of a worker at a command, or a call of the mesher as in a plan of version 2. Each is answered
-//! as the definitions of jobs answer it, whatever lines came before. A line that is neither is answered with its fault,
-//! and changes nothing.
+//! A line is an attempt of a worker at a command, or a call of the mesher as in a plan of version 2. Each line is
+//! answered by the definitions of jobs, whatever lines came before. A line of any other form is answered with its
+//! fault, and changes nothing.
 #![tactic(auto)]
 
 mod answers;

@@ -1,4 +1,4 @@
-//! The lines of a live session: the fields of each, from left to right.
+//! Reads the lines of a live session, each field by field from left to right.
 ghost use Rattle.std.specs.Prelude.{◌≡◌, ◌≤◌, false, true, codes, Err, Ok, IfErr, IfOk};
 ghost use Rattle.std.specs.List.{list_any};
 ghost use Rattle.model_words.specs.Commands.{IsInRange};
@@ -26,9 +26,9 @@ pub enum LiveLine {
 /// Reads a line of a live session with `workers` workers: `run W COMMAND`, or any line of a plan of version 2 except
 /// `run W`. The line is passed without its end.
 ///
-/// Each command is spelt as in a script of version 2. The error is the first kind of fault that holds for the line:
-/// LONG_LINE if it has more than 1,024 bytes, BYTE, then WORD, and otherwise the fault of the leftmost field that can't
-/// be read. `Memory` is an allocation failure, which can come only for a `pair` line.
+/// Each command is spelt as in a script of version 2. The error is the first that holds: LONG_LINE if the line has more
+/// than 1,024 bytes, BYTE, then WORD, and otherwise the fault of the leftmost field that can't be read. `Memory` is an
+/// allocation failure, which can come only for a `pair` line.
 pub fn read_live_line(alloc: Global, workers: u32, line: &[u8]) -> Result<LiveLine, LineError>
     requires { 1 ≤ workers }
     ensures ok { IfOk result (λ asked. live_line workers line.now ≡ Ok (live_of asked)) }
@@ -60,7 +60,7 @@ fn line_of_fields(alloc: Global, workers: u32, fields: &[&[u8]]) -> Result<LiveL
     call_of(alloc, workers, *word, fields)
 }
 
-/// Reads any line of a plan, as a call of the mesher.
+/// Reads a line of a plan of version 2 as a call of the mesher.
 fn call_of(
     alloc: Global,
     workers: u32,
@@ -77,7 +77,7 @@ fn call_of(
     Ok(LiveLine::Call(line))
 }
 
-/// `run W COMMAND`
+/// Reads `run W COMMAND`, from its fields after `run`.
 fn attempt_of(workers: u32, fields: &[&[u8]]) -> Result<LiveLine, FaultKind>
     requires { 1 ≤ workers }
     ensures value { read_live result ≡ attempt_in workers (texts fields.now) }
@@ -89,7 +89,8 @@ fn attempt_of(workers: u32, fields: &[&[u8]]) -> Result<LiveLine, FaultKind>
     attempt_at(workers, *worker, command_of(Version::Two, *word, fields))
 }
 
-/// An attempt at a command that was read, by the worker that a field names.
+/// Returns the attempt of the worker that a field names, at a command that was read from the other fields. The error is
+/// the first that holds: WORD for the command, the fault of the worker, and any other fault of the command.
 fn attempt_at(
     workers: u32,
     worker: &[u8],

@@ -17,14 +17,15 @@ use std::alloc::{AllocError, Global};
 /// The greatest number of bytes of one read.
 const READ_BYTES: usize = 16_384;
 
-/// Answers the lines that the input gives, one by one. Each answer is a line, and is written before the next line is
-/// taken.
+/// Answers the lines of the input, one by one. Each answer is one line, and is written before the next line is
+/// answered.
 ///
-/// A line is what `Session::answer` takes, and each fault is written as an answer. The line `end` ends the session, and
-/// so does the input's end. If bytes follow the last line end, the answer is the fault CUT, or LONG_LINE if they are
-/// more than 1,024.
+/// A line is answered as `Session::answer` does, so its fault is an answer too. The line `end` ends the session, and so
+/// does the input's end. If bytes follow the last line end, they are answered with the fault CUT, or with LONG_LINE if
+/// they are more than 1,024.
 ///
-/// `Read` if the input failed, `Write` if the output failed, and `Memory` if an allocation failed. `Text` never comes.
+/// The error is Read if the input failed, Write if the output failed, and Memory if an allocation failed. It is never
+/// Text.
 pub fn live<I: Source, O: Sink>(
     alloc: Global,
     sizes: &Sizes,
@@ -49,7 +50,7 @@ pub fn live<I: Source, O: Sink>(
     live_on(alloc, &mut session, input, output)
 }
 
-/// Does the same as `live`, for a session that has taken no line yet.
+/// Does the same as `live`, for a session that has answered no line yet.
 fn live_on<I: Source, O: Sink>(
     alloc: Global,
     session: &mut Session,
@@ -79,15 +80,15 @@ fn live_on<I: Source, O: Sink>(
     write_rest(alloc, line.as_slice(), output)
 }
 
-/// Room for the bytes of one read.
+/// Returns a buffer for the bytes of one read. An error is an allocation failure.
 fn room_to_read(alloc: Global) -> Result<Vec<u8>, AllocError>
     ensures { IfOk result (λ room. vec_len room ≡ 16384) }
 {
     vec![in alloc; 0; READ_BYTES]
 }
 
-/// Reads the input, and takes each piece of it as it comes. Returns `true` once the line `end` was read, and `false` if
-/// the input has ended. In that case `line` holds what is kept of the bytes after the last line end.
+/// Reads the input piece by piece, and answers its lines. Returns `true` once the line `end` was read, and `false` if
+/// the input has ended. If the result is `false`, `line` holds what is kept of the bytes after the last line end.
 fn feed<I: Source, O: Sink>(
     alloc: Global,
     session: &mut Session,
@@ -124,8 +125,8 @@ fn feed<I: Source, O: Sink>(
     Ok(false)
 }
 
-/// Takes bytes one by one: collects those of a line, and answers the line when a byte is its end. Returns `true` if the
-/// line `end` was among them: nothing after it is taken.
+/// Processes bytes one by one: collects the bytes of a line, and answers the line at its end. Stops at the line `end`,
+/// and then returns `true`. Bytes after that line are ignored.
 fn take_bytes<O: Sink>(
     alloc: Global,
     session: &mut Session,
@@ -159,7 +160,7 @@ fn take_bytes<O: Sink>(
     Ok(false)
 }
 
-/// Collects a byte of a line, unless the line has too many.
+/// Adds a byte to a line, unless the line already has more than 1,024 bytes. An error is an allocation failure.
 fn keep(line: &mut Vec<u8>, byte: u8) -> Result<(), AllocError>
     requires { byte ≢ 10 }
     ensures { OnOk result (Keeps line.old.items byte line.new.items) }
@@ -220,7 +221,7 @@ fn write_line<O: Sink>(text: &mut Vec<u8>, output: &mut O) -> Result<(), ReplayE
     write_lines(output, text.as_slice())
 }
 
-/// Writes the answer to the bytes after the last line end.
+/// Writes the fault of the bytes after the last line end. Writes nothing if there are no such bytes.
 fn write_rest<O: Sink>(alloc: Global, rest: &[u8], output: &mut O) -> Result<(), ReplayError>
     requires { O.has_failed output.old ≡ false }
     ensures ok { OnOk result (O.has_failed output.new ≡ false) }

@@ -16,11 +16,11 @@ use mesh_mutator::Book;
 use mesh_text::Turns;
 use std::alloc::{AllocError, Global};
 
-/// A heap that takes one line at a time.
+/// A heap that answers one line at a time.
 pub struct Session {
     /// A job of the session's sizes, with empty scripts and an empty plan.
     pub(crate) job: Job,
-    /// The heap, and the place of each worker in its script: all scripts are over.
+    /// The heap, and the place of each worker in its script. All scripts are over.
     pub(crate) turns: Turns,
 }
 
@@ -42,9 +42,9 @@ impl Session {
         Ok(Session { job, turns })
     }
 
-    /// The heap with its root cells and its journal, as the lines so far have left them. The journal is a legal history
-    /// of the reference memory, and ends in what heap and cells mean. `Book::headline` states what else holds of the
-    /// book at any moment.
+    /// Returns the book after the lines so far: the heap, its root cells and its journal. The journal is a legal
+    /// history of the reference memory. It ends in the memory that heap and cells mean. `Book::headline` states what
+    /// else holds of the book at any moment.
     pub fn book(&self) -> &Book
         ensures value { result.now ≡ book_of self.now }
         ensures legal { IsHistory (book_of self.now).entries }
@@ -55,15 +55,15 @@ impl Session {
         book
     }
 
-    /// Answers a line, which has no end: appends the answer to `text`, without a line end.
+    /// Answers a line, which is passed without its end. Appends the answer to `text`, without a line end.
     ///
-    /// `run W COMMAND` is an attempt of worker W at this command, spelt as in a script of version 2. Any other line is
-    /// one of a plan of version 2, except that `run W` is a fault. Each is answered as in a replay, and `blocked` and
-    /// `history full` are answers too. A line that is neither is answered with `fault KIND`, the kind that a reader of
-    /// job files reports, and changes nothing.
+    /// `run W COMMAND` is an attempt of worker W at this command, spelt as in a script of version 2. Any other line
+    /// must be one of a plan of version 2, but not `run W`. Each line is answered as in a replay, and `blocked` and
+    /// `history full` are answers too. A line of any other form changes nothing. Its answer is `fault KIND`, with the
+    /// kind that a reader of job files reports.
     ///
-    /// An error is an allocation failure. It may come after the effect of the line, so the session can't go on after
-    /// it.
+    /// An error is an allocation failure. It may come after the effect of the line, so the session can't continue after
+    /// an error.
     pub fn answer(
         &mut self,
         alloc: Global,
@@ -87,7 +87,7 @@ impl Session {
         }
     }
 
-    /// How many workers there are.
+    /// The number of workers.
     fn workers(&self) -> u32
         ensures value { result ≡ (sizes_of self.now).workers }
         ensures some { 1 ≤ result }

@@ -1,19 +1,18 @@
-//! `CallBudget`: how many calls are allowed, and how many were made.
+//! `CallBudget`: the number of calls allowed, and the number made.
 ghost use Rattle.std.specs.Prelude.{◌≡◌, ℕ, ◌≤◌, ◌↔◌, suc, IsTrue, Some};
 
-/// How many calls are allowed, and how many were made. `None` means no limit. The type keeps the number of calls within
-/// the limit.
+/// The number of calls allowed, and the number made. If there is a limit, the type keeps the number made within it.
 #[derive(Clone, Copy)]
 pub struct CallBudget {
-    /// How many calls are allowed.
+    /// The number of calls allowed. `None` if there is no limit.
     pub most: Option<u32>,
-    /// How many calls were made, if there is a limit.
+    /// The number of calls made, if there is a limit.
     pub made: u32,
     pub ghost within: { (n : ℕ) → most ≡ Some n → made ≤ n },
 }
 
 impl CallBudget {
-    /// A budget of which no call was made.
+    /// Returns a budget that allows `most` calls, with no call made. `None` is no limit.
     pub fn of(most: Option<u32>) -> CallBudget
         ensures most { result.most ≡ most }
         ensures made { result.made ≡ 0 }
@@ -21,14 +20,14 @@ impl CallBudget {
         CallBudget { most, made: 0 }
     }
 
-    /// Whether all allowed calls were made.
+    /// Whether there is a limit and all allowed calls were made.
     pub fn is_used_up(&self) -> bool
         ensures { IsTrue result ↔ (self.now.most ≡ Some self.now.made) }
     {
         self.most == Some(self.made)
     }
 
-    /// Counts one more call.
+    /// Counts one more call, if there is a limit. Requires that the budget isn't used up.
     pub fn spend(&mut self)
         requires { self.old.most ≡ Some self.old.made → ⊥ }
         ensures most { self.new.most ≡ self.old.most }

@@ -1,4 +1,4 @@
-//! The calls of a seat's mutator, past a gate.
+//! `Mutator`: the calls of a mutator on a shared book, with a gate at its reads.
 ghost use Rattle.std.specs.Prelude.{◌≡◌, ◌↔◌, ◌<◌, ◌≤◌, length, None, IsTrue, true};
 ghost use Rattle.model_words.specs.Commands.{IsInRange};
 ghost use Rattle.model_memory.specs.Reads.{is_read};
@@ -14,7 +14,7 @@ use mesh_mutator::{Attempt, Command};
 use mesh_search::{Actor, Gate, Point};
 use std::sync::Wait;
 
-/// A mutator of a shared book, past a gate.
+/// A mutator of a shared book. Its reads arrive at a gate.
 #[derive(Drop)]
 pub struct Mutator<'a, R, G> {
     rt: &'a R,
@@ -23,7 +23,7 @@ pub struct Mutator<'a, R, G> {
 }
 
 impl<'a, R: Wait, G: Gate> Mutator<'a, R, G> {
-    /// A mutator of this book.
+    /// Returns a mutator of this book, whose reads arrive at this gate.
     pub fn of(rt: &'a R, gate: &'a G, shared: &'a Shared) -> Mutator<'a, R, G> {
         Mutator { rt, gate, shared }
     }
@@ -50,7 +50,7 @@ impl<'a, R: Wait, G: Gate> Mutator<'a, R, G> {
         act(&mut self.shared.book.write(self.rt), seat, command)
     }
 
-    /// Makes attempts until one isn't Blocked.
+    /// Makes attempts until one isn't Blocked, and returns that attempt.
     pub fn retry(&self, seat: &mut Seat, command: &Command) -> Attempt
         requires { IsInRange command.now }
         ensures taken { IsTaken seat.old seat.new command.now result }
@@ -68,8 +68,8 @@ impl<'a, R: Wait, G: Gate> Mutator<'a, R, G> {
         unreachable!()
     }
 
-    /// Makes attempts until one isn't Blocked or all tries are used up. At least one try must be left. A Blocked result
-    /// means that each attempt was Blocked.
+    /// Makes attempts until one isn't Blocked or the tries are used up, and returns the last attempt. At least one try
+    /// must be left before the call. If the result is Blocked, each attempt was Blocked.
     pub fn retry_up_to(&self, seat: &mut Seat, command: &Command, tries: &mut CallBudget) -> Attempt
         requires range { IsInRange command.now }
         requires some { IsUsedUp tries.old → ⊥ }
@@ -93,7 +93,7 @@ impl<'a, R: Wait, G: Gate> Mutator<'a, R, G> {
         unreachable!()
     }
 
-    /// Makes one attempt, and counts it.
+    /// Counts one try, and makes one attempt. At least one try must be left.
     fn attempt_counted(&self, seat: &mut Seat, command: &Command, tries: &mut CallBudget) -> Attempt
         requires range { IsInRange command.now }
         requires some { IsUsedUp tries.old → ⊥ }
@@ -108,8 +108,8 @@ impl<'a, R: Wait, G: Gate> Mutator<'a, R, G> {
     }
 }
 
-/// The number of a call, counted from 0, as it is passed to a gate. Numbers that are too large for a gate become the
-/// greatest one.
+/// Converts the number of a call, counted from 0, to the number that a gate receives. A number above `u32::MAX` becomes
+/// `u32::MAX`.
 pub fn call_number(call: usize) -> u32
     ensures heard { call ≤ 4294967295 → result ≡ call }
     ensures last { 4294967295 < call → result ≡ 4294967295 }

@@ -11,9 +11,11 @@ use crate::kept::Kept;
 use crate::seat::Seat;
 use mesh_mutator::{Entry, Journal};
 
-/// Returns the first seat whose recorded calls aren't its worker's entries, and the place of the first such call among
-/// them. It goes through the journal once per seat. So with 64 seats and a journal of 65,536 entries it reads some 4
-/// million entries.
+/// Returns the first seat whose recorded calls differ from its worker's entries, and the first place at which the two
+/// lists differ. `None` if no seat differs.
+///
+/// The function reads the journal once per seat. With 64 seats and a journal of 65,536 entries, it reads some 4 million
+/// entries.
 pub fn differing(seats: &[Seat], journal: &Journal) -> Option<(u32, usize)>
     requires few { length seats.now < 2 ^ 32 }
     ensures settled { result ≡ None → AreSettled (length seats.now) (recorded_of seats.now) journal.now.entries }
@@ -30,7 +32,8 @@ pub fn differing(seats: &[Seat], journal: &Journal) -> Option<(u32, usize)>
     None
 }
 
-/// The first place at which a seat's recorded calls differ from a worker's entries.
+/// Returns the first place at which a seat's recorded calls differ from a worker's entries. `None` if the two lists are
+/// the same.
 fn first_difference(calls: &[Kept], journal: &Journal, worker: u32) -> Option<usize>
     ensures same { result ≡ None → recorded calls.now ≡ calls_of worker journal.now.entries }
     ensures differs { IfSome result
@@ -53,7 +56,7 @@ fn first_difference(calls: &[Kept], journal: &Journal, worker: u32) -> Option<us
     if rest.is_empty() { None } else { Some(place) }
 }
 
-/// The calls from the first recorded one on.
+/// Returns the calls without the reads before the first recorded call.
 fn skip_reads(calls: &[Kept]) -> &[Kept]
     ensures { IsRecordedFirst calls.now result.now }
 {

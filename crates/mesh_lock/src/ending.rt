@@ -1,4 +1,4 @@
-//! The history of a book and its seats.
+//! `settle`: builds one history from a book and its seats.
 ghost use Rattle.std.specs.Prelude.{◌≡◌, ◌≤◌, length, IfErr, IfOk};
 ghost use Rattle.model_memory.specs.Memory.{Memory};
 ghost use Rattle.model_memory.specs.Plain.{IsLegal};
@@ -15,7 +15,7 @@ use mesh_steps::Heap;
 use model_memory::read_laws::{built_has_calls, built_is_legal};
 use std::alloc::Global;
 
-/// The result of the end of a run.
+/// The result of `settle`.
 #[derive(Drop)]
 pub struct Ended {
     /// The heap.
@@ -30,15 +30,15 @@ pub struct Ended {
 /// and history.
 ///
 /// `count` is the expected number of seats. A read that saw n entries comes after the first n entries of the journal
-/// and before the next one. Among such reads those of lower seats come first, and those of one seat in its order.
+/// and before the next entry. Reads at the same place are ordered by seat, and reads of one seat keep their order.
 ///
-/// Otherwise it returns one error, the first that applies of SeatMissing, SeatDiffers, ReadDiffers. Memory is returned
-/// on an allocation failure, in place of ReadDiffers or of the history. The other two errors are excluded before that,
-/// because checking them allocates nothing. After an error nothing is returned.
+/// The error is the first that applies of SeatMissing, SeatDiffers and ReadDiffers. If an allocation fails, the result
+/// is Memory in place of ReadDiffers or of the history. Memory never takes the place of SeatMissing or SeatDiffers,
+/// because checking for those two allocates nothing. On an error the heap, the cells and the history are dropped.
 ///
-/// Each error is returned if and only if it holds and no earlier one does. The clauses' cases exclude one another and
-/// leave no other case. A missing seat is a value of the arguments, seats are settled or differ at one call, and a
-/// history is returned only if all reads are right.
+/// The contract determines the result, except that an allocation failure is possible. The cases of its clauses exclude
+/// one another and leave no other case: a seat is missing, or a seat differs from the journal, or a read is wrong, or
+/// all reads are right.
 pub fn settle(alloc: Global, book: Book, count: u32, seats: Vec<Seat>) -> Result<Ended, FinishError>
     ensures ended { IfOk result
         (λ ended. IsEnd count seats.items book.entries ended.history.items (memory_in ended.heap ended.roots)) }
@@ -55,7 +55,7 @@ pub fn settle(alloc: Global, book: Book, count: u32, seats: Vec<Seat>) -> Result
     })
 }
 
-/// The one history of a journal and the seats of its mutators.
+/// Builds the one history of a journal and the seats of its mutators. The errors are those of `settle`.
 fn history_of(
     alloc: Global,
     seats: &[Seat],

@@ -1,4 +1,4 @@
-//! Why no seats could be created, and why seats and journal don't form a history.
+//! The errors of `Shared::open` and of `settle`.
 ghost use Rattle.std.specs.Prelude.{◌≡◌};
 ghost use Rattle.mesh_lock.specs.declared.faults.FinishError.{FinishError};
 ghost use Rattle.mesh_lock.specs.declared.faults.OpenError.{OpenError};
@@ -6,7 +6,7 @@ ghost use Rattle.mesh_lock.specs.declared.faults.OpenError.{OpenError};
 use std::alloc::AllocError;
 use thiserror::Error;
 
-/// Why no seats could be created.
+/// The reason why no seats could be created.
 #[derive(Debug, Drop, PartialEq, Eq, Error)]
 pub enum OpenError {
     /// An allocation failed.
@@ -14,29 +14,33 @@ pub enum OpenError {
     Memory,
 }
 
-/// Why seats and journal don't form a history. The first of these that applies is reported, in the order in which they
-/// are listed here. Which seats and calls are reported is this project's own choice.
+/// The reason why seats and journal don't form a history.
+///
+/// The first that applies of `SeatMissing`, `SeatDiffers` and `ReadDiffers` is returned, but `Memory` may take the
+/// place of `ReadDiffers`. Which seat and which call an error names is this project's own choice.
 #[derive(Debug, Drop, PartialEq, Eq, Error)]
 pub enum FinishError {
-    /// The least place whose seat doesn't have the place's number. If more seats were passed in, or the journal has an
-    /// entry of a worker without a seat, it is the expected number of seats.
+    /// The first place, below the expected number of seats, whose seat is missing or doesn't have the place's number.
+    /// If there is no such place, it is the expected number of seats: more seats were passed in, or the journal has an
+    /// entry of a worker without a seat.
     #[error("SEAT_MISSING {0}")]
     SeatMissing(u32),
-    /// A call of a seat that isn't its worker's entry of the journal: the least such seat, and its first such call.
+    /// The first seat whose recorded calls differ from its worker's entries in the journal, and the first place at
+    /// which the two lists differ.
     #[error("SEAT_DIFFERS {seat}, {call}")]
     SeatDiffers {
         /// The seat's number.
         seat: u32,
-        /// Which of the seat's calls that aren't reads, counted from 0.
+        /// The place of the difference among the seat's calls that aren't reads, counted from 0.
         call: usize,
     },
-    /// A read whose answer isn't the one of the reference memory at its place in the journal, or that can't have that
-    /// place: the least such seat, and its first such call.
+    /// A read whose answer differs from the reference memory's answer at the read's place in the journal, or that can't
+    /// have that place. It is the first such read of the first seat that has one.
     #[error("READ_DIFFERS {seat}, {call}")]
     ReadDiffers {
         /// The seat's number.
         seat: u32,
-        /// Which of all calls of the seat, counted from 0.
+        /// The place of the read among all calls of the seat, counted from 0.
         call: usize,
     },
     /// An allocation failed.

@@ -1,4 +1,4 @@
-//! What a mutator does with the book while it holds the lock.
+//! The calls of a mutator on the book while it holds the lock.
 //!
 //! A lock's contract says nothing about the value it guards, so these functions take the `Book` itself and carry the
 //! full contract. A call takes the lock and runs one of these functions.
@@ -12,8 +12,8 @@ ghost use Rattle.mesh_lock.specs.Seat.{IsNew, IsNoted, IsStore, noted};
 use crate::Seat;
 use mesh_mutator::{Attempt, Book, Command, Reply};
 
-/// Makes one attempt of a seat's mutator at a recorded command, under the number of its seat. The seat keeps the
-/// command if it is done.
+/// Makes one attempt at a command that isn't a read, for the mutator with the seat's number. If the attempt is Done,
+/// the seat keeps the command and its reply.
 pub(crate) fn act(book: &mut Book, seat: &mut Seat, command: &Command) -> Attempt
     requires range { IsInRange command.now }
     requires recorded { is_read command.now ≡ false }
@@ -31,8 +31,8 @@ pub(crate) fn act(book: &mut Book, seat: &mut Seat, command: &Command) -> Attemp
     attempt
 }
 
-/// Makes a read of a seat's mutator, and returns the book's answer. The seat keeps it with the length of this book's
-/// journal.
+/// Answers a read of a seat's mutator from the book, and returns the answer. The seat keeps the read, the answer and
+/// the length of the book's journal.
 pub(crate) fn look(book: &Book, seat: &mut Seat, command: &Command) -> Reply
     requires range { IsInRange command.now }
     requires read { is_read command.now ≡ true }

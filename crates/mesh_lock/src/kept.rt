@@ -12,7 +12,7 @@ pub struct Kept {
     pub command: Command,
     /// Its reply.
     pub reply: Reply,
-    /// For a read, the journal's length.
+    /// For a read, the length of the journal that it saw. `None` for any other command.
     pub seen: Option<u32>,
 }
 
@@ -38,7 +38,7 @@ impl Kept {
     }
 }
 
-/// Whether the command reads and changes nothing.
+/// Whether the command is a read: `get`, `addr` or `peek`.
 pub fn is_read(command: &Command) -> bool
     ensures { result ≡ is_read command.now }
 {

@@ -1,11 +1,11 @@
-//! A book that several mutators share: behind one lock, each with a seat, and at the end one history of all.
+//! A book that several mutators share under one lock, and one history of all their calls.
 //!
 //! `Shared` contains the book. A call that may change something is recorded under the exclusive lock. A read runs under
-//! the shared lock and leaves the journal unchanged. The seat keeps each call of its mutator: for a read, the length
-//! that the journal had when it ran; for any other call, that it is an entry.
+//! the shared lock and leaves the journal unchanged. Each mutator has a seat, which keeps the mutator's calls. For a
+//! read, the seat also keeps the length of the journal when the read ran.
 //!
-//! At the end `settle` builds one history from the journal and all seats, or reports the first call that fits in none.
-//! A `Mutator` makes its calls past a gate. `mesh_shared` runs whole scripts in threads.
+//! At the end `settle` builds one history from the journal and all seats, or returns why they form no history. The
+//! reads of a `Mutator` arrive at a gate. `mesh_shared` runs whole scripts in threads.
 #![tactic(auto)]
 
 mod call_budget;

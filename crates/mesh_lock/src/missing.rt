@@ -9,8 +9,9 @@ use crate::seat::Seat;
 use mesh_mutator::Journal;
 use model_memory::seat_laws::missing_seat_is_least;
 
-/// The missing seat: the least place whose seat doesn't have the place's number. If there are more seats, or an entry
-/// of a worker without a seat, it is the count.
+/// Returns the first place below `count` whose seat is missing or doesn't have the place's number. If there is no such
+/// place, returns `count` if there are more seats, or if an entry is of a worker without a seat. Otherwise returns
+/// `None`.
 pub fn missing(seats: &[Seat], count: u32, journal: &Journal) -> Option<u32>
     ensures missing { result ≡ missing_seat count (numbers_of seats.now) journal.now.entries }
     ensures many { result ≡ None → length seats.now ≡ count }
@@ -28,7 +29,7 @@ pub fn missing(seats: &[Seat], count: u32, journal: &Journal) -> Option<u32>
     None
 }
 
-/// Whether the place has the seat of its number.
+/// Whether there is a seat at the place, and the seat has the place's number.
 fn is_seated(seats: &[Seat], place: u32) -> bool
     ensures { IsTrue result ↔ (slice_get (numbers_of seats.now) place ≡ Some place) }
 {
@@ -38,7 +39,7 @@ fn is_seated(seats: &[Seat], place: u32) -> bool
     }
 }
 
-/// Whether an entry is of a worker without a seat.
+/// Whether some entry is of a worker without a seat: its worker's number is `count` or greater.
 fn has_stranger(journal: &Journal, count: u32) -> bool
     ensures some { result ≡ true
         → (i : ℕ) × (entry : Entry) × (slice_get journal.now.entries i ≡ Some entry) × (count ≤ entry.worker) }

@@ -1,4 +1,4 @@
-//! Reads that the walk takes.
+//! Moves reads from the seats' calls to the history.
 ghost use Rattle.std.specs.Prelude.{◌≡◌, ◌↔◌, ℕ, ◌^◌, ◌<◌, ◌≤◌, IfOk, IsTrue, true, None, length};
 ghost use Rattle.std.specs.List.{All};
 ghost use Rattle.model_words.specs.Commands.{IsInRange};
@@ -12,8 +12,8 @@ use mesh_mutator::Entry;
 use mesh_plain::Plain;
 use std::alloc::AllocError;
 
-/// Takes the reads of all seats that saw `n` entries, the lower seats first, up to the first wrong one. Returns the
-/// seat of the wrong one.
+/// Moves the reads that saw `n` entries from all seats to the history, lower seats first, up to the first wrong read.
+/// Returns the seat of the wrong read, or `None` if no read is wrong. An error is an allocation failure.
 pub fn take_all<'a>(
     plain: &Plain,
     n: u32,
@@ -36,8 +36,11 @@ pub fn take_all<'a>(
     Ok(None)
 }
 
-/// Takes the reads of a seat that saw `n` entries, up to the first call for later or the first wrong one. Returns what
-/// is left, and whether it begins with a wrong read.
+/// Moves the reads that saw `n` entries from the front of a seat's calls to the history. Stops before a recorded call,
+/// a read that saw more entries, or a wrong read.
+///
+/// A read is wrong if it saw fewer entries, or if the reference memory answers otherwise. Returns the remaining calls,
+/// and whether the first of them is a wrong read. An error is an allocation failure.
 fn take_reads<'a>(
     plain: &Plain,
     worker: u32,
@@ -68,7 +71,7 @@ fn take_reads<'a>(
     Ok((rest, false))
 }
 
-/// Whether the read was answered as the reference memory answers.
+/// Whether the read's reply is that of the reference memory.
 fn answers(plain: &Plain, kept: &Kept) -> bool
     requires read { is_read kept.now.command ≡ true }
     requires range { IsInRange kept.now.command }

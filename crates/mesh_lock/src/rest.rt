@@ -1,4 +1,4 @@
-//! `Rest`, what is left of a seat's calls.
+//! `Rest`: the remaining calls of a seat.
 ghost use Rattle.std.specs.Prelude.{◌≡◌};
 ghost use Rattle.std.specs.List.{All};
 ghost use Rattle.mesh_lock.specs.Seat.{IsKept};
@@ -6,7 +6,7 @@ ghost use Rattle.mesh_lock.specs.Seat.{IsKept};
 use crate::kept::Kept;
 use std::marker::Model;
 
-/// What is left of a seat's calls.
+/// The calls of a seat that the walk of the journal has not taken yet.
 #[derive(Drop)]
 pub struct Rest<'a> {
     calls: &'a [Kept],
@@ -29,7 +29,7 @@ impl<'a> Model for Rest<'a> {
 }
 
 impl<'a> Rest<'a> {
-    /// Creates a rest of these calls.
+    /// Returns these calls as a `Rest`.
     pub(crate) fn of(calls: &'a [Kept]) -> Rest<'a>
         requires { All IsKept calls.now }
         ensures { result ≡ calls.now }

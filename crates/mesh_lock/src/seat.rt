@@ -1,4 +1,4 @@
-//! `Seat`: the answers of one mutator.
+//! `Seat`: the calls and answers of one mutator.
 ghost use Rattle.std.specs.Prelude.{◌≡◌, ◌<◌, ◌≤◌, ◌++◌, [], ◌∷◌, IsTrue, ◌↔◌, IfOk, is_some, length};
 ghost use Rattle.std.specs.List.{All};
 ghost use Rattle.model_words.specs.Commands.{IsInRange};
@@ -10,8 +10,8 @@ use mesh_mutator::{Command, Reply};
 use std::alloc::{AllocError, Global};
 use std::marker::Model;
 
-/// The calls and answers of one mutator, in its order. Its room was allocated when it was opened, and it keeps no more
-/// calls than that.
+/// The calls and answers of one mutator, in program order. `open` allocates room for a fixed number of calls, and a
+/// seat keeps at most that many.
 #[derive(Drop)]
 pub struct Seat {
     number: u32,
@@ -46,15 +46,15 @@ impl Seat {
         })
     }
 
-    /// Its number.
+    /// The seat's number.
     pub fn number(&self) -> u32
         ensures { result ≡ self.now.number }
     {
         self.number
     }
 
-    /// Its calls in their order, no more than it has room for. The reads, and only they, have a length that they saw.
-    /// Each command is in range.
+    /// The seat's calls in their order. There are no more calls than the seat has room for. A call has a length of the
+    /// journal that it saw if and only if it is a read. Each command is in range.
     pub fn calls(&self) -> &[Kept]
         ensures calls { result.now ≡ self.now.calls }
         ensures kept { All IsKept result.now }
@@ -63,15 +63,15 @@ impl Seat {
         self.calls.as_slice()
     }
 
-    /// Whether its room is used up.
+    /// Whether the seat's room is used up.
     pub fn is_full(&self) -> bool
         ensures { IsTrue result ↔ (self.now.room ≤ length self.now.calls) }
     {
         self.calls.len() >= self.room
     }
 
-    /// Keeps a call and its answer, and for a read the number of entries that it saw. It allocates nothing. If the
-    /// worker wasn't given this answer, `settle` reports the call.
+    /// Adds a call and its answer, and for a read the number of entries that it saw. Nothing is allocated. If the
+    /// answer isn't the book's, `settle` returns an error.
     pub fn keep(&mut self, command: &Command, reply: &Reply, seen: Option<u32>)
         requires room { length self.old.calls < self.old.room }
         requires read { is_some seen ≡ is_read command.now }

@@ -1,4 +1,4 @@
-//! `Shared`: a book under a lock, and the calls of mutators and their threads.
+//! `Shared`: a book under a lock, and the calls of its mutators.
 ghost use Rattle.std.specs.Prelude.{◌≡◌, ℕ, ◌↔◌, ◌<◌, ◌≤◌, List, [], length, IsTrue, IfOk, IfErr, true};
 ghost use Rattle.model_words.specs.Commands.{IsInRange};
 ghost use Rattle.model_memory.specs.Reads.{is_read};
@@ -18,16 +18,16 @@ use std::sync::{RwLock, Wait};
 /// A book that several mutators share.
 #[derive(Drop)]
 pub struct Shared {
-    /// The only book. A mesher takes this lock too, and makes one call of the book each time.
+    /// The book under its lock. A mesher takes this lock too, once for each call on the book.
     pub book: RwLock<Book>,
-    /// How many seats it was opened with, which is how many `finish` expects.
+    /// The number of seats that `open` created, and that `finish` expects.
     pub seats: u32,
 }
 
 impl Shared {
-    /// Puts a book with an empty journal under a lock, and creates an empty seat for each of 1 to 64 counts. The seats
-    /// are numbered 0, 1, .. in order, and each has room for its count of calls, which may be 0. The error is Memory if
-    /// an allocation for the seats failed.
+    /// Puts a book with an empty journal under a lock, and creates one empty seat per count. There must be 1 to 64
+    /// counts. The seats are numbered 0, 1, .. in order, and each has room for its count of calls, which may be 0. The
+    /// error is Memory if an allocation for the seats failed.
     pub fn open(
         alloc: Global,
         book: Book,
@@ -49,18 +49,18 @@ impl Shared {
         ))
     }
 
-    /// How many seats it was opened with.
+    /// The number of seats that `open` created.
     pub fn seats(&self) -> u32
         ensures { result ≡ self.now.seats }
     {
         self.seats
     }
 
-    /// Makes one attempt of a seat's mutator at a command, as one step that nothing interrupts.
+    /// Makes one attempt at a command for a seat's mutator, as one atomic step.
     ///
-    /// If the seat is full, the result is HistoryFull, before anything else is checked. A read is answered under the
-    /// shared lock, concurrently with other reads, and never enters the journal. Any other command is an attempt at the
-    /// book under the exclusive lock. The seat keeps the command and its reply only if the result is Done. Nothing is
+    /// If the seat is full, nothing else is checked, and the result is HistoryFull. A read is answered under the shared
+    /// lock, concurrently with other reads, and never enters the journal. Any other command is an attempt at the book
+    /// under the exclusive lock. The seat keeps the command and its reply only if the result is Done. Nothing is
     /// allocated, except for a `New` that needs a new span.
     pub fn call<R: Wait>(&self, rt: &R, seat: &mut Seat, command: &Command) -> Attempt
         requires { IsInRange command.now }
@@ -72,7 +72,8 @@ impl Shared {
         Mutator::of(rt, &NoGate, self).attempt(seat, command)
     }
 
-    /// Makes the same attempt again while it is Blocked. It may wait for as long as a page stays read-only.
+    /// Makes attempts as `call` does until one isn't Blocked, and returns that attempt. The function doesn't return
+    /// while a mesh keeps the page of a store read-only.
     pub fn retry_call<R: Wait>(&self, rt: &R, seat: &mut Seat, command: &Command) -> Attempt
         requires { IsInRange command.now }
         ensures taken { IsTaken seat.old seat.new command.now result }
@@ -84,10 +85,10 @@ impl Shared {
         Mutator::of(rt, &NoGate, self).retry(seat, command)
     }
 
-    /// Removes the lock, and settles its book with the seats.
+    /// Takes the book out of the lock, and settles it with the seats (`settle`).
     ///
-    /// The contract doesn't know the book under the lock, so its clauses say that there is some journal. `settle` gives
-    /// the result for a known book.
+    /// A contract can't name a book that was under a lock, so these clauses state the result for some journal. The
+    /// contract of `settle` states the result for a known book.
     pub fn finish(self, alloc: Global, seats: Vec<Seat>) -> Result<Ended, FinishError>
         ensures ended { IfOk result
             (λ ended. (entries : List Entry)
@@ -98,7 +99,7 @@ impl Shared {
     }
 }
 
-/// An empty seat for each count, numbered from 0 on.
+/// Returns an empty seat for each count, numbered from 0. An error is an allocation failure.
 fn seats_of(alloc: Global, counts: &[usize]) -> Result<Vec<Seat>, AllocError>
     requires few { length counts.now ≤ 64 }
     ensures { IfOk result (λ seats. IsEmptySeats 0 counts.now seats.items) }

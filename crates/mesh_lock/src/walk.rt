@@ -16,9 +16,11 @@ use mesh_plain::Plain;
 use model_memory::read_laws::few_are_made;
 use std::alloc::{AllocError, Global};
 
-/// Builds the history of a journal and seats whose recorded calls are its entries, in one walk of the journal; or
-/// returns the first wrong read. After a wrong read only the seats below its own are examined, because a wrong read of
-/// one of them would be reported instead.
+/// Builds the history of a journal and seats whose recorded calls are its entries, in one walk of the journal. Returns
+/// ReadDiffers if a read is wrong, or Memory if an allocation fails.
+///
+/// After a wrong read, only the seats with lower numbers are examined further, because a wrong read of such a seat is
+/// reported instead.
 pub fn weave(alloc: Global, seats: &[Seat], journal: &Journal) -> Result<Vec<Entry>, FinishError>
     requires few { length seats.now < 2 ^ 32 }
     requires short { length journal.now.entries ≤ 65536 }
@@ -65,7 +67,7 @@ fn add(history: &mut Vec<Entry>, entry: Entry) -> Result<(), AllocError>
     Ok(())
 }
 
-/// Returns the history if no wrong read was found.
+/// Returns the history if no wrong read was found, and otherwise ReadDiffers with the wrong read.
 fn unless_told(history: Vec<Entry>, told: Option<(u32, usize)>) -> Result<Vec<Entry>, FinishError>
     ensures ok { IfOk result (λ whole. (told ≡ None) × (whole.items ≡ history.items)) }
     ensures fault { IfErr result
@@ -77,7 +79,7 @@ fn unless_told(history: Vec<Entry>, told: Option<(u32, usize)>) -> Result<Vec<En
     }
 }
 
-/// The calls that are left of each seat at the beginning: all.
+/// Returns the remaining calls of each seat before the walk: all its calls. An error is an allocation failure.
 fn rests_of<'a>(alloc: Global, seats: &'a [Seat]) -> Result<Vec<Rest<'a>>, AllocError>
     ensures rests { IfOk result (λ rests. rests.items ≡ calls_of_seats seats.now) }
     ensures kept { OnOk result ((w : ℕ) → All IsKept (kept_by (calls_of_seats seats.now) w)) }
@@ -89,7 +91,8 @@ fn rests_of<'a>(alloc: Global, seats: &'a [Seat]) -> Result<Vec<Rest<'a>>, Alloc
     Ok(rests)
 }
 
-/// Takes the first call of the entry's seat. Returns the seat if that call is a read, which comes too early.
+/// Removes the first call of the entry's seat, if that call isn't a read. Returns the seat if its first call is a read,
+/// or if it has no call left. Changes nothing and returns `None` if `rests` has no such seat.
 fn step<'a>(rests: &mut [Rest<'a>], worker: u32) -> Option<usize>
     ensures length { length rests.new ≡ length rests.old }
     ensures step { IsStep worker rests.old rests.new result }
@@ -108,7 +111,7 @@ fn step<'a>(rests: &mut [Rest<'a>], worker: u32) -> Option<usize>
     None
 }
 
-/// The first seat with a call left.
+/// Returns the first seat with a call left, or `None` if no seat has one.
 fn first_left<'a>(rests: &[Rest<'a>]) -> Option<usize>
     ensures { IsFirstLeft rests.now result }
 {
@@ -120,8 +123,8 @@ fn first_left<'a>(rests: &[Rest<'a>]) -> Option<usize>
     None
 }
 
-/// Reports the first remaining call of the seat that was found, and drops the remaining calls of this seat and those
-/// above it.
+/// If a seat was found, stores the place of its first remaining call in `told`, and removes this seat and those above
+/// it from `rests`.
 fn tell<'a>(
     seats: &[Seat],
     rests: &mut Vec<Rest<'a>>,

@@ -1,4 +1,4 @@
-//! Objects of a book, each retried if an allocation fails.
+//! A case that makes objects in a book, and retries each call whose allocation fails.
 ghost use Rattle.std.specs.Prelude.{◌≡◌, ◌≤◌};
 ghost use Rattle.model_words.specs.Commands.{IsInRange};
 
@@ -8,7 +8,7 @@ use mesh_mutator::{Attempt, Book, Command, Reply};
 use mesh_steps::Report;
 use std::alloc::Global;
 
-/// How many cells are used. Each is written several times.
+/// The number of cells that are used. Each cell is written several times.
 const CELLS: u32 = 8;
 
 /// Opens a book, and fills it.
@@ -24,7 +24,7 @@ impl Maker for Book {
     }
 }
 
-/// The state that a failed New must not change.
+/// The state of a book that a failed `New` must not change.
 #[derive(Drop)]
 struct Before {
     // What a load of the cell is answered.
@@ -34,7 +34,7 @@ struct Before {
 }
 
 impl Before {
-    /// The state of a book before a New of a cell.
+    /// Returns the state of a book before a `New` that would write a cell.
     fn of(book: &Book, cell: u8) -> Before {
         Before {
             seen: book.look(&Command::Get(cell, 0, 16)),
@@ -43,7 +43,7 @@ impl Before {
         }
     }
 
-    /// `Ok` if the book is still in this state.
+    /// Returns `Ok` if the book is still in this state, and otherwise the difference as an error.
     fn check(&self, book: &Book, cell: u8) -> Result<(), CaseError> {
         let seen = book.look(&Command::Get(cell, 0, 16));
         if seen != self.seen {
@@ -59,7 +59,7 @@ impl Before {
     }
 }
 
-/// Makes an object that a cell names, and retries if an allocation fails.
+/// Makes an object, stores its reference in a cell, and retries if an allocation fails. Returns the number of retries.
 fn make(book: &mut Book, cell: u8, len: u32, wanted: &Reply) -> End {
     let before = Before::of(book, cell);
     if has_room(book, cell, len, wanted)? {
@@ -69,7 +69,7 @@ fn make(book: &mut Book, cell: u8, len: u32, wanted: &Reply) -> End {
     make_again(book, cell, len, wanted)
 }
 
-/// Retries to make an object for which an allocation failed once.
+/// Makes an object after an allocation failed once, and returns 1. A second failure is an error.
 fn make_again(book: &mut Book, cell: u8, len: u32, wanted: &Reply) -> End {
     if has_room(book, cell, len, wanted)? {
         return Ok(1);
@@ -77,7 +77,7 @@ fn make_again(book: &mut Book, cell: u8, len: u32, wanted: &Reply) -> End {
     Err(CaseError::Wrong("one allocation was refused twice"))
 }
 
-/// Whether there was memory for an object. The answer must then be `wanted`.
+/// Makes an object, and returns whether its allocations succeeded. The answer must then be `wanted`.
 fn has_room(book: &mut Book, cell: u8, len: u32, wanted: &Reply) -> Result<bool, CaseError> {
     match book.act(0, &Command::New(cell, len, 0)) {
         Attempt::Done(reply) => {

@@ -1,16 +1,16 @@
-//! How a case ends.
+//! The ways in which a case can end.
 use mesh_search::SearchError;
 use mesh_shared::{FinishError, OpenError};
 use std::alloc::AllocError;
 use thiserror::Error;
 
-/// How many calls failed to allocate and were retried, or what ended the case.
+/// The number of calls that were retried because an allocation failed, or the reason why the case ended early.
 pub(crate) type End = Result<u32, CaseError>;
 
 /// The reason why a case ended early.
 #[derive(Clone, Copy, Debug, Error)]
 pub(crate) enum CaseError {
-    /// Something contradicts the contracts.
+    /// A result that contradicts the contracts.
     #[error("WRONG: {0}")]
     Wrong(&'static str),
     /// An allocation failed in a call that isn't retried.
@@ -51,7 +51,7 @@ impl From<SearchError> for CaseError {
     }
 }
 
-/// `Ok` if `holds`, and otherwise the error with these words.
+/// Returns `Ok` if `holds` is true, and otherwise the error `Wrong` with these words.
 pub(crate) fn expect(holds: bool, what: &'static str) -> Result<(), CaseError> {
     if holds {
         Ok(())

@@ -1,4 +1,4 @@
-//! Objects of a heap, each retried if an allocation fails.
+//! A case that makes objects in a heap, and retries each call whose allocation fails.
 use crate::ends::{CaseError, End, expect};
 use crate::orders::{Maker, Order, PAGES, make_all};
 use mesh_steps::{Heap, NewFault, Ref};
@@ -17,7 +17,7 @@ impl Maker for Heap {
     }
 }
 
-/// Makes an object, and retries if an allocation fails.
+/// Makes an object, and retries if an allocation fails. Returns the number of retries.
 fn make(heap: &mut Heap, len: u32, wanted: Ref) -> End {
     let before = heap.report();
     if has_room(heap, len, wanted)? {
@@ -29,7 +29,7 @@ fn make(heap: &mut Heap, len: u32, wanted: Ref) -> End {
     make_again(heap, len, wanted)
 }
 
-/// Retries to make an object for which an allocation failed once.
+/// Makes an object after an allocation failed once, and returns 1. A second failure is an error.
 fn make_again(heap: &mut Heap, len: u32, wanted: Ref) -> End {
     if has_room(heap, len, wanted)? {
         return Ok(1);
@@ -37,7 +37,7 @@ fn make_again(heap: &mut Heap, len: u32, wanted: Ref) -> End {
     Err(CaseError::Wrong("one allocation was refused twice"))
 }
 
-/// Whether there was memory for an object. It must then be `wanted`.
+/// Makes an object, and returns whether its allocations succeeded. The object must then be `wanted`.
 fn has_room(heap: &mut Heap, len: u32, wanted: Ref) -> Result<bool, CaseError> {
     if heap.is_full() {
         return Err(CaseError::Wrong("too many objects"));

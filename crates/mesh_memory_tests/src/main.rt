@@ -1,9 +1,9 @@
-//! Cases in which each allocation fails once, to check that the remaining state is what the contracts say.
+//! Cases in which an allocation fails, to check that the state afterwards is what the contracts promise.
 //!
-//! The program is run with a library that fails one allocation, by `tools/test/oom.sh`. A word names the case;
-//! without a word, all cases run. For each case one line reports how it ended: done, with how many calls failed to
-//! allocate and were retried, out of memory, or a thread fault. A line that begins with `WRONG` reports what
-//! contradicts the contracts; then the status is 1.
+//! `tools/test/oom.sh` runs the program with a library that lets one allocation fail. A word on the command line names
+//! the case; without a word all cases run. The program prints one line for each case: done, with the number of calls
+//! that were retried because an allocation failed; out of memory; or a thread fault. A line that begins with `WRONG`
+//! reports a contradiction to the contracts. The status is 1 if there is such a line.
 #![tactic(auto)]
 
 mod book;
@@ -21,7 +21,7 @@ use std::sync::Wait;
 use std::thread::Threads;
 use std::{env, io};
 
-/// The cases' names, in the order in which they run.
+/// The names of the cases, in the order in which the cases run.
 const CASES: [&str; 7] = [
     "heap", "book", "mesh", "views", "seats", "search", "threads",
 ];
@@ -37,13 +37,13 @@ fn main(rt: HostRuntime) -> ExitCode {
     }
 }
 
-/// Prints that there was no memory for the command line's words, which is not a fault.
+/// Prints that an allocation failed while the command line was read, and returns that this is no contradiction.
 fn tell_no_words<R: Print>(rt: &R) -> io::Result<bool> {
     println!(rt; "words: out of memory")?;
     Ok(true)
 }
 
-/// Runs the named case, or all cases if none is named, and returns whether all ended without a contradiction.
+/// Runs the named case, or all cases if none is named. Returns whether there was no contradiction to the contracts.
 fn run_named<R: AllocGlobal + Print + Threads + Wait + Sync>(
     rt: &R,
     case: Option<&String>,
@@ -54,13 +54,13 @@ fn run_named<R: AllocGlobal + Print + Threads + Wait + Sync>(
     }
 }
 
-/// The words of the command line, the program's name first.
+/// Returns the words of the command line. The first word is the name of the program.
 fn words(rt: &HostRuntime) -> io::Result<Vec<String>> {
     let words = env::args(rt)?.collect(rt.alloc())?;
     Ok(words)
 }
 
-/// Runs all cases.
+/// Runs all cases, and returns whether there was no contradiction to the contracts.
 fn run_all<R: AllocGlobal + Print + Threads + Wait + Sync>(rt: &R) -> io::Result<bool> {
     let mut right = true;
     for case in CASES.iter() {
@@ -69,7 +69,7 @@ fn run_all<R: AllocGlobal + Print + Threads + Wait + Sync>(rt: &R) -> io::Result
     Ok(right)
 }
 
-/// Runs a case and prints its line.
+/// Runs a case, prints its line, and returns whether there was no contradiction to the contracts.
 fn run_case<R: AllocGlobal + Print + Threads + Wait + Sync>(
     rt: &R,
     case: &str,

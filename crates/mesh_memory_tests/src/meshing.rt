@@ -1,4 +1,4 @@
-//! Running meshes, between whose steps nothing allocates.
+//! A case with running meshes, between whose steps no call allocates.
 ghost use Rattle.std.specs.Prelude.{◌≡◌, ◌∷◌, []};
 ghost use Rattle.model_words.specs.Commands.{IsInRange};
 
@@ -10,8 +10,8 @@ use mesh_steps::Report;
 use model_words::MAX_BYTES;
 use std::alloc::Global;
 
-/// Makes meshes step by step, with commands between the steps. The two lines that it prints delimit the part without an
-/// allocation.
+/// Makes meshes step by step, with commands between the steps. A line is printed before and after the part in which no
+/// call allocates.
 pub(crate) fn mesh<R: Print>(rt: &R, alloc: Global) -> End {
     match Book::open(alloc, 16, 400) {
         Ok(mut book) => mesh_in(rt, &mut book),
@@ -28,7 +28,7 @@ fn mesh_in<R: Print>(rt: &R, book: &mut Book) -> End {
     go_between(rt, book, large, small)
 }
 
-/// Runs the part without an allocation, between the two lines.
+/// Runs the part in which no call allocates, and prints a line before and after it.
 fn go_between<R: Print>(rt: &R, book: &mut Book, large: Class, small: Class) -> End {
     tell(rt, "mesh: a stretch begins in which nothing takes memory\n")?;
     let end = go_through(book, large, small);
@@ -45,7 +45,7 @@ fn tell<R: Print>(rt: &R, line: &str) -> Result<(), CaseError> {
     }
 }
 
-/// The cells and the lengths of the objects that are made before the meshes.
+/// The objects that are made before the meshes: the cell and the length in bytes of each.
 static OBJECTS: [(u8, u32); 14] = [
     (0, 2048),
     (1, 2048),
@@ -63,11 +63,11 @@ static OBJECTS: [(u8, u32); 14] = [
     (21, 64),
 ];
 
-/// The cells whose objects are freed afterwards.
+/// The cells of the objects that are freed once all objects are made.
 static FREED: [u8; 7] = [0, 3, 10, 11, 16, 17, 20];
 
-/// Makes two groups that can be meshed in each of two classes, groups 0 to 3, an empty group 4, and group 5 with one
-/// object.
+/// Makes six groups: two that can be meshed in each of two classes (groups 0 to 3), an empty one (4), and one with one
+/// object (5).
 fn set_up(book: &mut Book) -> Result<(), CaseError> {
     for (cell, len) in OBJECTS.iter() {
         make(book, *cell, *len)?;
@@ -78,7 +78,7 @@ fn set_up(book: &mut Book) -> Result<(), CaseError> {
     Ok(())
 }
 
-/// Makes an object that a cell names.
+/// Makes an object, and stores its reference in a cell.
 fn make(book: &mut Book, cell: u8, len: u32) -> Result<(), CaseError> {
     match book.act(0, &Command::New(cell, len, 0)) {
         Attempt::Done(Reply::Object(_, _)) => Ok(()),
@@ -106,15 +106,15 @@ fn done(book: &mut Book, command: Command) -> Result<(), CaseError>
     answered(book, command, Reply::Done, "a command that isn't done")
 }
 
-/// Runs the part without an allocation. One mesh is made and another cancelled, both step by step, and meanwhile an
-/// object of the latter's source is freed. Then the cancelled mesh is made at once, and the empty group is swept.
+/// Runs the part in which no call allocates. Two meshes run at once: one is finished, the other is cancelled after an
+/// object of its source was freed. Then the cancelled mesh is made in one call, and the empty group is swept.
 fn go_through(book: &mut Book, large: Class, small: Class) -> Result<(), CaseError> {
     begin_both(book, small)?;
     step_through(book, large, small)?;
     finish(book)
 }
 
-/// Begins both meshes, makes a step of the one of the smaller class, and frees an object of its source.
+/// Begins both meshes, makes one step of the mesh of the smaller class, and frees an object of that mesh's source.
 fn begin_both(book: &mut Book, small: Class) -> Result<(), CaseError> {
     done(book, put(2, b'm'))?;
     if book.begin(1, 0) != Ok(6) {
@@ -129,8 +129,8 @@ fn begin_both(book: &mut Book, small: Class) -> Result<(), CaseError> {
     done(book, Command::Free(15))
 }
 
-/// Makes the steps of the mesh of the larger class, with each other call after every step, and cancels the mesh of the
-/// smaller class among them.
+/// Makes all steps of the mesh of the larger class, and runs each other kind of call after every step. The mesh of the
+/// smaller class is cancelled after the second step.
 fn step_through(book: &mut Book, large: Class, small: Class) -> Result<(), CaseError> {
     let mut left = 6u32;
     for _ in 0..6u32 {
@@ -143,7 +143,7 @@ fn step_through(book: &mut Book, large: Class, small: Class) -> Result<(), CaseE
     expect(left == 0, "a mesh that isn't over")
 }
 
-/// The counts of the book after the part without an allocation.
+/// The expected report of the book after the part in which no call allocates.
 const REPORT: Report = Report {
     objects: 6,
     bytes: 2 * 2048 + 3 * 1024 + 64,
@@ -152,7 +152,7 @@ const REPORT: Report = Report {
     saved: 2,
 };
 
-/// Makes the cancelled mesh at once, and sweeps the empty group.
+/// Makes the cancelled mesh in one call, and sweeps the empty group.
 fn finish(book: &mut Book) -> Result<(), CaseError> {
     if book.mesh_whole(3, 2) != Ok(1) {
         return Err(CaseError::Wrong("another mesh made whole"));
@@ -163,7 +163,7 @@ fn finish(book: &mut Book) -> Result<(), CaseError> {
     expect(book.report() == REPORT, "another report")
 }
 
-/// Makes a step of a mesh, and returns how many are left: one fewer than before.
+/// Makes a step of a mesh of which `left` steps are left, and returns the number that is left then: one fewer.
 fn step(book: &mut Book, class: Class, left: u32) -> Result<u32, CaseError> {
     let Ok(step) = book.step(class) else {
         return Err(CaseError::Wrong("a step that is refused"));
@@ -175,7 +175,7 @@ fn step(book: &mut Book, class: Class, left: u32) -> Result<u32, CaseError> {
     Ok(step.left)
 }
 
-/// Cancels the mesh of a class after its first step, and makes the one step that removes the protection.
+/// Cancels the mesh of a class after its first step, and makes the one step that unprotects its page.
 fn unwind(book: &mut Book, class: Class) -> Result<(), CaseError> {
     let Ok(left) = book.cancel(class) else {
         return Err(CaseError::Wrong("a cancel that is refused"));
@@ -202,7 +202,8 @@ fn one(byte: u8) -> ArrayVec<u8, MAX_BYTES>
     bytes
 }
 
-/// Runs each command, a New in an open group, and a report. A store may be blocked.
+/// Runs each kind of command, tries to sweep a group that isn't empty, and checks the report's number of objects. A
+/// store into the source may be blocked.
 fn attempt_all(book: &mut Book) -> Result<(), CaseError> {
     read_all(book)?;
     store_all(book)?;
@@ -239,7 +240,7 @@ fn store_all(book: &mut Book) -> Result<(), CaseError> {
     done_or_blocked(book, put(2, b'm'))
 }
 
-/// Runs a New, a Free of its object, and a Free of an object that is already freed.
+/// Frees an object a second time, which must be refused, and then makes and frees another object.
 fn make_and_free(book: &mut Book) -> Result<(), CaseError> {
     expect(
         book.act(0, &Command::Free(0)) != Attempt::Done(Reply::Done),
@@ -249,7 +250,7 @@ fn make_and_free(book: &mut Book) -> Result<(), CaseError> {
     done(book, Command::Free(22))
 }
 
-/// Runs a store, and checks that it is done or blocked.
+/// Runs a store, and checks that the store is done or blocked.
 fn done_or_blocked(book: &mut Book, command: Command) -> Result<(), CaseError>
     requires { IsInRange command }
 {

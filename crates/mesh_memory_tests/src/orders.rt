@@ -1,7 +1,7 @@
-//! The objects of the cases, with the addresses that the definitions give them.
+//! The objects of the cases, and the addresses that the definitions give to the objects.
 use crate::ends::End;
 
-/// How many pages there are: more than the objects need.
+/// The number of pages of the arena. The objects need fewer.
 pub(crate) const PAGES: u32 = 64;
 
 /// Objects of one length that fill their spans in the order of the slots, one span after another.
@@ -11,7 +11,7 @@ pub(crate) struct Order {
     pub len: u32,
     /// The number of objects.
     pub count: u32,
-    /// The address of the first object. Each object follows the one before.
+    /// The address of the first object. Each further object comes directly after the one before it.
     pub first: u32,
 }
 
@@ -22,7 +22,7 @@ impl Order {
     }
 }
 
-/// 20 spans, of pages 1 to 20, then two, one and 20 more: 43 spans of three classes.
+/// The objects of the cases. The four orders occupy 20 spans, two, one and 20 spans: 43 spans of three classes.
 pub(crate) static ORDERS: [Order; 4] = [
     Order {
         len: 2048,
@@ -48,12 +48,12 @@ pub(crate) static ORDERS: [Order; 4] = [
 
 /// A heap or a book in which a case makes objects.
 pub(crate) trait Maker {
-    /// Makes the `k`-th object of an order, which must get this serial, and retries if an allocation fails. Returns how
-    /// often one failed.
+    /// Makes the `k`-th object of an order, and retries if an allocation fails. The object must get this serial.
+    /// Returns the number of allocation failures.
     fn make(&mut self, order: &Order, k: u32, serial: u32) -> End;
 }
 
-/// Makes the objects of all orders, and returns how often an allocation failed.
+/// Makes the objects of all orders, and returns the number of allocation failures.
 pub(crate) fn make_all<M: Maker>(maker: &mut M) -> End {
     let mut refused = 0u32;
     let mut serial = 0u32;

@@ -1,4 +1,4 @@
-//! Views and searches of the worked groups.
+//! Cases that search the views of the worked example's groups.
 use crate::ends::{CaseError, End, expect};
 use mesh_mutator::{Attempt, Book, Command};
 use mesh_search::{ClassView, Found, NoGate, Pair, search, search_one, shuffle};
@@ -6,17 +6,18 @@ use std::alloc::Global;
 use std::sync::Wait;
 use std::thread::Threads;
 
-/// The objects to free of eight of the class 2048, so that its four groups can be meshed in two pairs.
+/// The cells of the objects that are freed. Of eight objects of the class 2048 four are left, in four groups that can
+/// be meshed in two pairs.
 static FREED: [u8; 4] = [1, 3, 4, 6];
 
-/// The objects to free so that each of the four groups keeps the object in its first slot. Then no two groups can be
-/// meshed.
+/// The cells of the objects that are freed so that each of the four groups keeps the object in its first slot. No two
+/// of these groups can be meshed.
 static FREED_IN_SECOND_SLOTS: [u8; 4] = [1, 3, 5, 7];
 
-/// The words of the worked searches.
+/// The random words of the worked searches.
 static WORDS: [u64; 3] = [2, 0, 5];
 
-/// The views of four groups of eight objects, after these objects are freed.
+/// Makes eight objects in four groups, frees the objects of these cells, and returns the views.
 fn views_after(alloc: Global, freed: &[u8]) -> Result<Vec<ClassView>, CaseError> {
     match Book::open(alloc, 16, 64) {
         Ok(mut book) => views_of(alloc, &mut book, freed),
@@ -24,7 +25,7 @@ fn views_after(alloc: Global, freed: &[u8]) -> Result<Vec<ClassView>, CaseError>
     }
 }
 
-/// The views of a fresh book, once it contains the four groups.
+/// Makes eight objects in a fresh book, frees the objects of these cells, and returns the views.
 fn views_of(alloc: Global, book: &mut Book, freed: &[u8]) -> Result<Vec<ClassView>, CaseError> {
     for cell in 0..8u8 {
         if book.act(0, &Command::New(cell, 2048, 0)) == Attempt::OutOfMemory {
@@ -40,15 +41,15 @@ fn views_of(alloc: Global, book: &mut Book, freed: &[u8]) -> Result<Vec<ClassVie
     Ok(views?)
 }
 
-/// The worked pairs, source first.
+/// The pairs of the worked example, source first.
 static PAIRS: [(u32, u32); 2] = [(1, 2), (3, 0)];
 
-/// Whether a search found the worked pairs in four tries.
+/// Whether a search found the pairs of the worked example in four tries.
 fn is_worked(found: &Found) -> bool {
     found.probes == 4 && are_worked(found.pairs.as_slice())
 }
 
-/// Whether pairs are the worked ones.
+/// Whether these pairs are those of the worked example.
 fn are_worked(found: &[Pair]) -> bool {
     if found.len() != PAIRS.len() {
         return false;
@@ -62,8 +63,8 @@ fn are_worked(found: &[Pair]) -> bool {
     true
 }
 
-/// `Ok` if a search of the view at a place found the right pairs: the worked pairs in the last view, none in the
-/// others.
+/// Returns `Ok` if a search of the view at a place found the right pairs: those of the worked example in the last view,
+/// none in the others.
 fn check(found: &Found, place: usize) -> Result<(), CaseError> {
     if place == 9 && !is_worked(found) {
         return Err(CaseError::Wrong("other pairs"));
@@ -74,13 +75,13 @@ fn check(found: &Found, place: usize) -> Result<(), CaseError> {
     )
 }
 
-/// Computes the views, the order and the pairs of the worked groups, on one thread.
+/// Computes the views, the shuffled order and the pairs of the worked example, on one thread.
 pub(crate) fn search_alone(alloc: Global) -> End {
     let views = views_after(alloc, &FREED)?;
     search_views(alloc, views.as_slice())
 }
 
-/// Computes the order and the pairs of ten views.
+/// Checks the shuffled order of four groups, and the pairs of each of ten views.
 fn search_views(alloc: Global, views: &[ClassView]) -> End {
     if views.len() != 10 {
         return Err(CaseError::Wrong("another count of views"));
@@ -92,19 +93,19 @@ fn search_views(alloc: Global, views: &[ClassView]) -> End {
     Ok(0)
 }
 
-/// Checks the order of four groups.
+/// Checks the shuffled order of four groups.
 fn check_order(alloc: Global) -> Result<(), CaseError> {
     let order = shuffle(alloc, &[0, 1, 2, 3], &WORDS)?;
     expect(order.as_slice() == [2, 0, 3, 1].as_slice(), "another order")
 }
 
-/// Checks the pairs of the view at a place.
+/// Searches the view at a place, and checks the pairs that are found.
 fn search_view(alloc: Global, view: &ClassView, place: usize) -> Result<(), CaseError> {
     let found = search_one(alloc, view, &WORDS, 2)?;
     check(&found, place)
 }
 
-/// Runs two searches of all views by two workers: one in two rounds, and one in three rounds that finds no pair.
+/// Searches all views by two workers, twice: in two rounds, and in three rounds in which no pair is found.
 pub(crate) fn search_by_two<R: Threads + Wait + Sync>(rt: &R, alloc: Global) -> End {
     let views = views_after(alloc, &FREED)?;
     let found = search(rt, alloc, views.as_slice(), &WORDS, 2, 2, &NoGate)?;
@@ -112,14 +113,14 @@ pub(crate) fn search_by_two<R: Threads + Wait + Sync>(rt: &R, alloc: Global) -> 
     search_in_vain(rt, alloc)
 }
 
-/// Runs the search in three rounds of views whose groups can't be meshed.
+/// Searches views whose groups can't be meshed, in three rounds, and checks that no pair is found.
 fn search_in_vain<R: Threads + Wait + Sync>(rt: &R, alloc: Global) -> End {
     let views = views_after(alloc, &FREED_IN_SECOND_SLOTS)?;
     let found = search(rt, alloc, views.as_slice(), &WORDS, 3, 2, &NoGate)?;
     check_in_vain(found.as_slice())
 }
 
-/// `Ok` if ten searches found no pair, the last one with two tries in each of three rounds.
+/// Returns `Ok` if ten searches found no pair. The last search must have made six tries, two in each of three rounds.
 fn check_in_vain(found: &[Found]) -> End {
     if found.len() != 10 {
         return Err(CaseError::Wrong("another count of searches"));
@@ -136,7 +137,7 @@ fn is_in_vain(found: &Found, probes: u64) -> bool {
     found.probes == probes && found.pairs.is_empty()
 }
 
-/// `Ok` if these are the ten searches of the worked groups.
+/// Returns `Ok` if the results of ten searches are those of the worked example.
 fn check_all(found: &[Found]) -> End {
     if found.len() != 10 {
         return Err(CaseError::Wrong("another count of searches"));

@@ -1,4 +1,4 @@
-//! A book that two seats share.
+//! A case in which two seats share a book.
 ghost use Rattle.model_words.specs.Commands.{IsInRange};
 
 use crate::ends::{CaseError, End, expect};
@@ -11,7 +11,7 @@ use std::sync::Wait;
 /// The number of calls that each seat has room for.
 const ROOM: usize = 40;
 
-/// Makes calls of every kind by two seats, and settles their book.
+/// Makes calls of every kind by two seats, and settles the book.
 pub(crate) fn share<R: Wait>(rt: &R, alloc: Global) -> End {
     let book = Book::open(alloc, 32, 80)?;
     let (shared, mut seats) = Shared::open(alloc, book, &[ROOM, ROOM])?;
@@ -31,14 +31,14 @@ fn serve_all<R: Wait>(rt: &R, shared: &Shared, seats: &mut [Seat]) -> End {
     Ok(refused)
 }
 
-/// Settles the book, and checks that its history has an entry for each call.
+/// Settles the book, and checks that the history has an entry for each call.
 fn settle(alloc: Global, shared: Shared, seats: Vec<Seat>) -> Result<(), CaseError> {
     let calls = calls_of(seats.as_slice());
     let ended = shared.finish(alloc, seats)?;
     expect(ended.history.len() == calls, "another count of entries")
 }
 
-/// How many calls two seats keep.
+/// Returns the number of calls that the seats have kept.
 fn calls_of(seats: &[Seat]) -> usize {
     let mut calls = 0usize;
     for seat in seats.iter() {
@@ -47,7 +47,7 @@ fn calls_of(seats: &[Seat]) -> usize {
     calls
 }
 
-/// Makes the calls of one seat, which uses the cells from `first` on.
+/// Makes the calls of one seat, which uses the cells from `first` on. Returns the number of retries.
 fn serve<R: Wait>(rt: &R, shared: &Shared, seat: &mut Seat, first: u8) -> End {
     let mut refused = 0u32;
     for k in 0..24u8 {
@@ -58,7 +58,7 @@ fn serve<R: Wait>(rt: &R, shared: &Shared, seat: &mut Seat, first: u8) -> End {
     Ok(refused)
 }
 
-/// Makes a call of each other kind, with the objects of two cells.
+/// Makes one call of each kind besides `New`, with the objects of two cells.
 fn call_each<R: Wait>(
     rt: &R,
     shared: &Shared,
@@ -78,7 +78,7 @@ fn call_each<R: Wait>(
     call(rt, shared, seat, Command::Free(first))
 }
 
-/// Makes a call that allocates nothing.
+/// Makes a call that allocates nothing, and checks that it doesn't report a failed allocation.
 fn call<R: Wait>(
     rt: &R,
     shared: &Shared,
@@ -93,7 +93,7 @@ fn call<R: Wait>(
     Err(CaseError::Wrong("a call whose allocation failed"))
 }
 
-/// Makes a call, and retries if an allocation fails.
+/// Makes a call, and retries if an allocation fails. Returns the number of retries.
 fn make<R: Wait>(rt: &R, shared: &Shared, seat: &mut Seat, command: &Command) -> End
     requires { IsInRange command.now }
 {
@@ -103,7 +103,7 @@ fn make<R: Wait>(rt: &R, shared: &Shared, seat: &mut Seat, command: &Command) ->
     make_again(rt, shared, seat, command)
 }
 
-/// Retries a call for which an allocation failed once.
+/// Makes a call after its allocation failed once, and returns 1. A second failure is an error.
 fn make_again<R: Wait>(rt: &R, shared: &Shared, seat: &mut Seat, command: &Command) -> End
     requires { IsInRange command.now }
 {
@@ -113,7 +113,8 @@ fn make_again<R: Wait>(rt: &R, shared: &Shared, seat: &mut Seat, command: &Comma
     Err(CaseError::Wrong("one allocation was refused twice"))
 }
 
-/// Makes a call, and returns whether there was memory for it. The seat keeps the call if and only if there was.
+/// Makes a call, and returns whether its allocations succeeded. Checks that the seat keeps the call if and only if they
+/// did.
 fn is_kept<R: Wait>(
     rt: &R,
     shared: &Shared,

@@ -1,4 +1,4 @@
-//! Scripts on threads, while meshers run.
+//! A case with scripts on threads while meshers run.
 ghost use Rattle.std.specs.Prelude.{◌≡◌, ◌≤◌};
 ghost use Rattle.std.specs.List.{All};
 ghost use Rattle.model_words.specs.Commands.{IsInRange};
@@ -12,12 +12,12 @@ use std::alloc::{AllocError, Global};
 use std::sync::Wait;
 use std::thread::Threads;
 
-/// How many cells each worker has, and the first cell of each.
+/// The number of cells of each worker. `FIRST_CELLS` has the first cell of each worker.
 const CELLS: u8 = 40;
 
 const FIRST_CELLS: [u8; 2] = [0, 128];
 
-/// Runs two scripts of 200 commands on threads of their own, with two meshers that have two searchers each.
+/// Runs two scripts of 200 commands, each on its own thread, next to two meshers that have two searchers each.
 pub(crate) fn run_scripts<R: Threads + Wait + Sync>(rt: &R, alloc: Global) -> End {
     let one = script(alloc, FIRST_CELLS[0])?;
     let other = script(alloc, FIRST_CELLS[1])?;
@@ -46,13 +46,13 @@ fn run_both<'a, R: Threads + Wait + Sync>(
     }
 }
 
-/// The end of a run whose history has `entries` entries.
+/// Returns the end of a run whose history has `entries` entries. There must be 400.
 fn end_of(entries: usize) -> End {
     expect(entries == 400, "another count of entries")?;
     Ok(0)
 }
 
-/// The case error for the error of a run.
+/// Returns the case error for the error of a run.
 fn fault_of(error: RunError) -> CaseError {
     match error {
         RunError::Memory => CaseError::Memory,
@@ -62,14 +62,15 @@ fn fault_of(error: RunError) -> CaseError {
     }
 }
 
-/// Two scripts, in the form that a run takes.
+/// Returns two scripts in the type that a run expects.
 fn both<'a>(first: &'a Commands, second: &'a Commands) -> [&'a [Command]; 2]
     ensures { All (λ script. All IsInRange script.now) result }
 {
     [first.as_slice(), second.as_slice()]
 }
 
-/// A worker's script: it makes objects, stores their bytes, frees every other pair of them, and then reads them.
+/// Returns a worker's script, which makes objects, stores their bytes, frees every other pair of objects, and then
+/// reads.
 fn script(alloc: Global, first: u8) -> Result<Commands, AllocError> {
     let mut script = Commands::new(alloc);
     for turn in 0..TURNS {
@@ -80,10 +81,10 @@ fn script(alloc: Global, first: u8) -> Result<Commands, AllocError> {
     Ok(script)
 }
 
-/// How many commands a script has for each cell.
+/// The number of commands that a script has for each cell.
 const TURNS: u32 = 5;
 
-/// The command of a turn for the `k`-th cell.
+/// Returns the command for the `k`-th cell in a turn.
 fn command(turn: u32, cell: u8, k: u8) -> Command
     ensures { IsInRange result }
 {

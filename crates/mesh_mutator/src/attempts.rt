@@ -13,15 +13,15 @@ use mesh_steps::{Heap, NewFault, Ref, Stored};
 pub enum Attempt {
     /// The command was answered, and its answer is in the journal.
     Done(Reply),
-    /// A page that the store touches is read-only. Nothing changed.
+    /// The command would write to a read-only page. Nothing changed.
     Blocked,
-    /// The journal is at its reserved length. Nothing changed.
+    /// The journal has no room for a further entry. Nothing changed.
     HistoryFull,
-    /// Out of memory for a new span. Nothing changed.
+    /// An allocation for a new span failed. Nothing changed.
     OutOfMemory,
 }
 
-/// One attempt at a command, on heap and roots.
+/// Makes one attempt at a command, on heap and roots. Never returns `HistoryFull`.
 pub fn perform(heap: &mut Heap, roots: &mut Roots, command: &Command) -> Attempt
     requires range { IsInRange command.now }
     requires serials { heap.old.next_serial < 2 ^ 32 - 1 }
@@ -47,7 +47,7 @@ pub fn perform(heap: &mut Heap, roots: &mut Roots, command: &Command) -> Attempt
     }
 }
 
-/// Makes an object and stores its reference in a cell. If it is refused, the cell is unchanged.
+/// Makes an object, and stores its reference in a cell. If no object is made, the cell is unchanged.
 fn make(heap: &mut Heap, roots: &mut Roots, cell: u8, len: u32, word: u64) -> Attempt
     requires serials { heap.old.next_serial < 2 ^ 32 - 1 }
     requires cells { length roots.old ≡ 256 }
@@ -83,7 +83,7 @@ fn put(heap: &mut Heap, roots: &Roots, cell: u8, off: u32, bytes: &[u8]) -> Atte
     }
 }
 
-/// Copies bytes from the object that one cell names to the object that another names.
+/// Copies bytes from the object that the cell `from` names to the object that the cell `to` names.
 fn copy(
     heap: &mut Heap,
     roots: &Roots,
@@ -120,7 +120,7 @@ fn poke(heap: &mut Heap, roots: &Roots, addr: u32, byte: u8) -> Attempt
     stored(heap.poke(addr, byte))
 }
 
-/// The attempt that the result of a store amounts to.
+/// Returns the attempt for the answer to a store.
 fn stored(stored: Stored) -> Attempt
     ensures { result ≡ attempt_of stored }
 {
@@ -163,7 +163,7 @@ fn free(heap: &mut Heap, roots: &Roots, cell: u8) -> Reply
     }
 }
 
-/// Stores in one cell the reference of another, if that names a live object.
+/// If the cell `from` names a live object, stores the reference to this object in the cell `to`.
 fn alias(heap: &Heap, roots: &mut Roots, to: u8, from: u8) -> Reply
     requires cells { length roots.old ≡ 256 }
     requires rooted { AreRooted heap.now roots.old }
@@ -202,7 +202,8 @@ pub fn peek(heap: &Heap, roots: &Roots, addr: u32) -> Reply
     }
 }
 
-/// The live object that a cell names. EMPTY if the cell holds no reference, FREED if its object isn't live.
+/// Returns the reference to the live object that a cell names. The error is EMPTY if the cell has no reference, and
+/// FREED if the referenced object isn't live.
 fn live(heap: &Heap, roots: &Roots, cell: u8) -> Result<Ref, Refusal>
     requires { AreRooted heap.now roots.now }
     ensures named { IfOk result (IsNamedBy heap.now roots.now cell) }

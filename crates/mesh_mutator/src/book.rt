@@ -51,7 +51,7 @@ impl Drop for Book {
 
 impl Book {
     /// Opens a book without objects over `pages` physical pages, 1 to 4,096. Its journal has room for `history`
-    /// entries, 0 to 65,536. An error is an allocation failure.
+    /// entries, 0 to 65,536. Returns an error if an allocation fails.
     pub fn open(alloc: Global, pages: u32, history: u32) -> Result<Book, AllocError>
         requires some { 1 ≤ pages }
         requires most { pages ≤ 4096 }
@@ -71,7 +71,8 @@ impl Book {
         })
     }
 
-    /// The entries of the journal: a legal history of the reference memory, which ends in what heap and roots mean.
+    /// Returns the journal. Its entries are a legal history of the reference memory, and this history ends in the
+    /// memory that heap and roots represent.
     pub fn journal(&self) -> &Journal
         ensures entries { result.now.entries ≡ self.now.entries }
         ensures room { result.now.room ≡ self.now.room }
@@ -103,15 +104,17 @@ impl Book {
         (heap, roots, journal)
     }
 
-    /// What holds of a book at any moment, whatever calls came before and however mutators and mesher took turns.
+    /// What holds of a book at any moment, after any calls of mutators and mesher in any order:
     ///
-    /// - The journal is a legal history of the reference memory, and its end is what heap and cells mean.
-    /// - Two different bytes of live objects never share a place, and no free page holds a live object.
-    /// - The read-only pages are exactly those of the running meshes.
-    /// - The table is sound, and names the live objects.
+    /// - The journal is a legal history of the reference memory. It ends in the memory that heap and cells represent.
+    /// - Two different bytes of live objects never share a place in physical memory, and no free page holds a live
+    ///   object.
+    /// - The read-only virtual pages are exactly those that the running meshes have protected.
+    /// - The table is sound, and its records are those of the live objects.
     ///
-    /// So a `step` is refused only if no mesh of the class runs, and a `cancel` only then or once a page was remapped
-    /// (`model_heap::mesh_laws`). `docs/PROOF.md` lists what to read to be sure of the headline.
+    /// It follows that `step` is refused only if no mesh of the class runs. `cancel` is refused only in this case, or
+    /// if a page was already remapped (`model_heap::mesh_laws`). `docs/PROOF.md` lists what to read to be sure of the
+    /// headline.
     pub fn headline(&self)
         ensures legal { IsHistory self.now.entries }
         ensures ends { EndsInMeaning self.now }
@@ -126,9 +129,13 @@ impl Book {
         self.heap.sound();
     }
 
-    /// What always holds of its heap. Two different bytes of live objects never share a place, and no free page holds a
-    /// live object. The read-only pages are exactly those of the running meshes, and groups, page map and arena are
-    /// laid out as these meshes have them.
+    /// Invariants of the book's heap:
+    ///
+    /// - No two live objects share an address.
+    /// - No two bytes of live objects share a place in physical memory.
+    /// - No free page holds a live object.
+    /// - The read-only virtual pages are exactly those that the running meshes have protected.
+    /// - Groups, page map and arena agree with the progress of the running meshes.
     pub fn always(&self)
         ensures objects { HasObjectsApart self.now.heap }
         ensures places { HasPlacesApart self.now.heap }
@@ -139,12 +146,15 @@ impl Book {
         self.heap.always();
     }
 
-    /// Makes one attempt of a worker at a command.
+    /// Makes one attempt of a worker at a command. The result is the first of these that applies:
     ///
-    /// `HistoryFull` comes before all else, if the journal is at its reserved length. Then come refusals, then
-    /// `Blocked` of a `Put`, a `Poke` or a `Copy` that writes to a read-only page, then `OutOfMemory` of a `New` that
-    /// needs a new span. Only a `Done` attempt is recorded: its entry is added. Any other attempt leaves the book
-    /// unchanged.
+    /// - `HistoryFull`, if the journal has no room for a further entry.
+    /// - `Done` with a refusal, if the command is refused.
+    /// - `Blocked`, if a `Put`, `Poke` or `Copy` would write to a read-only page.
+    /// - `OutOfMemory`, if a `New` needs a new span and an allocation for the span fails.
+    /// - `Done` with the answer to the command.
+    ///
+    /// A `Done` attempt adds its entry to the journal. Any other attempt leaves the book unchanged.
     pub fn act(&mut self, worker: u32, command: &Command) -> Attempt
         requires { IsInRange command.now }
         ensures attempt { IsAttempt self.old self.new worker command.now result }
@@ -164,7 +174,7 @@ impl Book {
         attempt
     }
 
-    /// The answer that a `Get`, a `Peek` or an `Addr` gets now. It records nothing.
+    /// Returns the answer that a `Get`, a `Peek` or an `Addr` gets now. The command isn't recorded.
     pub fn look(&self, command: &Command) -> Reply
         requires { IsLook command.now }
         ensures { IsLooked self.now.heap self.now.cells command.now result }

@@ -11,7 +11,7 @@ pub struct Entry {
     pub worker: u32,
     /// The command.
     pub command: Command,
-    /// Its reply, a refusal included.
+    /// The reply to the command. It may be a refusal.
     pub reply: Reply,
 }
 
@@ -26,7 +26,7 @@ impl Model for Entry {
 }
 
 impl Entry {
-    /// The entry of a worker's command and its reply. It allocates nothing.
+    /// Returns the entry of a worker's command and its reply, without an allocation.
     pub fn of(worker: u32, command: &Command, reply: &Reply) -> Entry
         ensures { result ≡ record { worker = worker; command = command.now; reply = reply.now } }
     {

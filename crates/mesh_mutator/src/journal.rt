@@ -10,8 +10,8 @@ use std::marker::Model;
 
 /// Answered commands with their replies, in their order of effect.
 ///
-/// An entry takes 32 bytes. The bytes that its command stores and its reply loads are kept in a separate list, one
-/// entry's after another's. The room is allocated once.
+/// An entry takes 32 bytes. The bytes that commands store and replies load are in a separate list, in the order of the
+/// entries. The room for entries and bytes is allocated once, when the journal is made.
 pub struct Journal {
     entries: Vec<PackedEntry>,
     bytes: Vec<u8>,
@@ -42,8 +42,8 @@ impl Drop for Journal {
 }
 
 impl Journal {
-    /// Makes a journal without entries, with room for `room` of them, at most 65,536. An error is an allocation
-    /// failure.
+    /// Makes a journal without entries. It has room for `room` entries, at most 65,536. Returns an error if an
+    /// allocation fails.
     pub(crate) fn with_capacity(alloc: Global, room: usize) -> Result<Journal, AllocError>
         requires { room ≤ 65536 }
         ensures entries { IfOk result (λ journal. journal.entries ≡ []) }
@@ -56,7 +56,7 @@ impl Journal {
         })
     }
 
-    /// How many entries there are.
+    /// The number of entries.
     pub fn len(&self) -> usize
         ensures value { result ≡ length self.now.entries }
         ensures fits { result ≤ self.now.room }
@@ -64,14 +64,14 @@ impl Journal {
         self.entries.len()
     }
 
-    /// Whether there is no entry.
+    /// Whether the journal has no entries.
     pub fn is_empty(&self) -> bool
         ensures { IsTrue result ↔ (self.now.entries ≡ []) }
     {
         self.entries.is_empty()
     }
 
-    /// Whether there is no room for a further entry.
+    /// Whether the journal has no room for a further entry.
     pub(crate) fn is_full(&self) -> bool
         ensures full { result ≡ true → self.now.room ≤ length self.now.entries }
         ensures free { result ≡ false → length self.now.entries < self.now.room }
@@ -79,7 +79,7 @@ impl Journal {
         self.entries.len() == self.room
     }
 
-    /// The worker of the entry at a place, counted from 0.
+    /// Returns the worker of the entry at index `place`, counted from 0.
     pub fn worker(&self, place: usize) -> u32
         requires { place < length self.now.entries }
         ensures { (other : PlainEntry) → result ≡ (slice_index_or self.now.entries place other).worker }
@@ -87,7 +87,7 @@ impl Journal {
         self.entries[place].worker
     }
 
-    /// The entry at a place, counted from 0. It allocates nothing.
+    /// Returns the entry at index `place`, counted from 0, without an allocation.
     pub fn entry(&self, place: usize) -> Entry
         requires { place < length self.now.entries }
         ensures { (other : PlainEntry) → result ≡ slice_index_or self.now.entries place other }
@@ -100,7 +100,7 @@ impl Journal {
         }
     }
 
-    /// Adds the entry of a worker's command and its reply. It allocates nothing.
+    /// Adds the entry of a worker's command and its reply, without an allocation.
     pub(crate) fn push(&mut self, worker: u32, command: &Command, reply: &Reply)
         requires { length self.old.entries < self.old.room }
         ensures { self.new

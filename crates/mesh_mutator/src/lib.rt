@@ -1,6 +1,7 @@
 //! Commands of mutators on a heap with 256 root cells, and the journal of their answers.
 //!
-//! A caller drives the `Book`: each attempt is one call, and every command that was answered is in its journal.
+//! A caller drives the `Book`. Each attempt at a command is one call, and every answered command is in the book's
+//! journal.
 #![tactic(auto)]
 
 mod attempts;

@@ -1,8 +1,8 @@
-//! Entries as the journal keeps them.
+//! Entries in the form that the journal stores.
 use mesh_packed::{PackedCommand, PackedReply};
 
-/// An entry without the bytes that its command stores or its reply loads, in 32 bytes. Fields are laid out in their
-/// order, so the widest comes first.
+/// An entry of 32 bytes, without the bytes that its command stores or its reply loads. Fields are laid out in the order
+/// of their declaration, so the widest field comes first.
 #[derive(Drop)]
 pub(crate) struct PackedEntry {
     /// The command.

@@ -5,7 +5,7 @@ ghost use Rattle.mesh_mutator.specs.Book.{cell_at};
 use mesh_steps::Ref;
 use std::marker::Model;
 
-/// How many root cells there are.
+/// The number of root cells.
 const CELLS: usize = 256;
 
 /// The 256 root cells, shared by all workers. A cell is empty or holds a reference.

@@ -1,7 +1,7 @@
-//! A set of numbers that is kept as ranges. Numbers added one after another take no more memory than a single number.
+//! A set of numbers that is kept as ranges: consecutive numbers share one range and its memory.
 //!
-//! Two ranges of a [`NumberSet`] never touch. A number that is added is merged with the range that ends just before it
-//! and with the range that begins just after it.
+//! Two ranges of a [`NumberSet`] never touch. A number that is added is merged with the range that ends just before
+//! that number and with the range that begins just after that number.
 #![tactic(auto)]
 
 mod ranges;

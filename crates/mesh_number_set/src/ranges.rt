@@ -7,7 +7,8 @@ ghost use Rattle.mesh_number_set.specs.Ranges.{AreApart, HasIn, IsCut, IsFirst, 
 use std::alloc::AllocError;
 use std::collections::BTreeMap;
 
-/// The first and the last number of the last range that begins at or below this number.
+/// Returns the first and the last number of the last range that begins at or below this number. Returns `None` if no
+/// range begins there.
 fn nearest(ranges: &BTreeMap<u32, u32>, number: u32) -> Option<(u32, u32)>
     ensures { IsNearest (get nat_cmp ranges.now) number result }
 {
@@ -15,7 +16,8 @@ fn nearest(ranges: &BTreeMap<u32, u32>, number: u32) -> Option<(u32, u32)>
     Some((*first, *last))
 }
 
-/// The first and the last number of the first range that begins at or above this number.
+/// Returns the first and the last number of the first range that begins at or above this number. Returns `None` if no
+/// range begins there.
 fn next(ranges: &BTreeMap<u32, u32>, number: u32) -> Option<(u32, u32)>
     ensures { IsNext (get nat_cmp ranges.now) number result }
 {
@@ -34,7 +36,8 @@ pub(crate) fn has(ranges: &BTreeMap<u32, u32>, number: u32) -> bool
     }
 }
 
-/// The first number of the longest run that ends with `number`. All other numbers of the run are in the ranges.
+/// Returns the first number of the range that ends just before `number`, or `number` if no range ends there. No range
+/// may contain `number`.
 pub(crate) fn first_with(ranges: &BTreeMap<u32, u32>, number: u32) -> u32
     requires apart { AreApart (get nat_cmp ranges.now) }
     requires new { HasIn (get nat_cmp ranges.now) number → ⊥ }
@@ -51,7 +54,8 @@ pub(crate) fn first_with(ranges: &BTreeMap<u32, u32>, number: u32) -> u32
     }
 }
 
-/// The last number of the longest run that begins with `number`. All other numbers of the run are in the ranges.
+/// Returns the last number of the range that begins just after `number`, or `number` if no range begins there. No range
+/// may contain `number`.
 pub(crate) fn last_with(ranges: &BTreeMap<u32, u32>, number: u32) -> u32
     requires apart { AreApart (get nat_cmp ranges.now) }
     requires new { HasIn (get nat_cmp ranges.now) number → ⊥ }
@@ -68,7 +72,9 @@ pub(crate) fn last_with(ranges: &BTreeMap<u32, u32>, number: u32) -> u32
     }
 }
 
-/// Adds a number, as one range with the ranges that it touches. An error is an allocation failure.
+/// Adds `number`: the range from `first` to `last` replaces the ranges that end just before or begin just after
+/// `number`. `first` is the result of `first_with`, and `last` is the result of `last_with`. If an allocation fails,
+/// returns an error and leaves the ranges unchanged.
 pub(crate) fn join(
     ranges: &mut BTreeMap<u32, u32>,
     number: u32,
@@ -87,8 +93,8 @@ pub(crate) fn join(
     Ok(())
 }
 
-/// Removes a number that one of the ranges contains. An error is an allocation failure, which can come only if the
-/// range has numbers on both sides of this one.
+/// Removes a number that one of the ranges contains. If an allocation fails, returns an error and leaves the ranges
+/// unchanged. No allocation is made if the number is the last of its range.
 pub(crate) fn part(ranges: &mut BTreeMap<u32, u32>, number: u32) -> Result<(), AllocError>
     requires apart { AreApart (get nat_cmp ranges.old) }
     requires has { HasIn (get nat_cmp ranges.old) number }
@@ -112,8 +118,8 @@ fn range_of(ranges: &BTreeMap<u32, u32>, number: u32) -> (u32, u32)
     nearest(ranges, number).unwrap()
 }
 
-/// Adds the numbers after `number`, up to `last`, as a range. `last` is the end of the range that contained `number`.
-/// An error is an allocation failure.
+/// Adds the range from `number + 1` to `last`, if `number` is below `last`. `last` is the end of the range that
+/// contains `number`. If an allocation fails, returns an error and leaves the ranges unchanged.
 fn add_rest(ranges: &mut BTreeMap<u32, u32>, number: u32, last: u32) -> Result<(), AllocError>
     requires { number ≤ last }
     ensures rest { OnOk result (IsRest (get nat_cmp ranges.old) (get nat_cmp ranges.new) number last) }
@@ -126,7 +132,8 @@ fn add_rest(ranges: &mut BTreeMap<u32, u32>, number: u32, last: u32) -> Result<(
     Ok(())
 }
 
-/// Shortens the range that begins with `first` to the numbers before `number`, which is in the range.
+/// Shortens the range that begins with `first` and contains `number`: the range then ends just before `number`. Removes
+/// the range if `first` is `number`.
 fn cut(ranges: &mut BTreeMap<u32, u32>, number: u32, first: u32)
     requires is_range { IsSome (get nat_cmp ranges.old first) }
     requires from { first ≤ number }

@@ -7,9 +7,9 @@ use std::alloc::{AllocError, Global};
 use std::collections::BTreeMap;
 use std::marker::Model;
 
-/// A set of numbers, kept as ranges of which no two touch.
+/// A set of numbers, kept as ranges. No two ranges touch.
 ///
-/// Its memory depends on the number of ranges, not on the count of numbers.
+/// The set's memory depends on the number of ranges, not on the number of elements.
 #[derive(Drop)]
 pub struct NumberSet {
     // The last number of each range, by its first.
@@ -44,7 +44,7 @@ impl NumberSet {
         has(&self.ranges, number)
     }
 
-    /// The number of ranges. No two of them touch, so there are as few as possible.
+    /// Returns the number of ranges. No two ranges touch, so no smaller number of ranges has the same elements.
     pub fn ranges(&self) -> usize
         ensures many { result ≡ length self.now }
         ensures apart { AreApart (last_in self.now) }
@@ -52,7 +52,7 @@ impl NumberSet {
         self.ranges.len()
     }
 
-    /// Adds a number that isn't in the set. An error is an allocation failure; then the set is unchanged.
+    /// Adds a number that isn't in the set. If an allocation fails, returns an error and leaves the set unchanged.
     pub fn add(&mut self, number: u32) -> Result<(), AllocError>
         requires { Has self.old number → ⊥ }
         ensures added { OnOk result ((n : ℕ) → Has self.new n ↔ ((n ≡ number) ⊎ Has self.old n)) }
@@ -63,8 +63,8 @@ impl NumberSet {
         join(&mut self.ranges, number, first, last)
     }
 
-    /// Removes a number that is in the set. An error is an allocation failure; then the set is unchanged. It can come
-    /// only if the numbers just before and just after are in the set too, because one range then becomes two.
+    /// Removes a number that is in the set. If an allocation fails, returns an error and leaves the set unchanged. An
+    /// allocation is made only if the number just after is in the set too.
     pub fn remove(&mut self, number: u32) -> Result<(), AllocError>
         requires { Has self.old number }
         ensures removed { OnOk result ((n : ℕ) → Has self.new n ↔ (Has self.old n × (n ≢ number))) }

@@ -4,7 +4,7 @@ ghost use Rattle.std.specs.Prelude.{◌<◌};
 use crate::NumberSet;
 use std::alloc::{AllocError, Global};
 
-/// A number below the bound, by a linear congruential generator.
+/// Returns a number below the bound, by a linear congruential generator.
 fn random(seed: &mut u64, bound: usize) -> usize
     requires { 0 < bound }
     ensures { result < bound }
@@ -41,7 +41,7 @@ fn remove(set: &mut NumberSet, plain: &mut [bool; 64], number: usize) -> Result<
     Ok(())
 }
 
-/// Whether the set has the numbers that the array has.
+/// Whether the set has exactly the numbers that the array has.
 fn has_all(set: &NumberSet, plain: &[bool; 64]) -> bool {
     for (number, has) in plain.iter().enumerate() {
         if set.contains(number as u32) != *has {
@@ -83,7 +83,8 @@ fn random_numbers_are_removed_as_from_an_array(rt: HostRuntime) {
     }
 }
 
-/// The set of some numbers, each added unless it is already in the set. An error is an allocation failure.
+/// Returns the set of some numbers. A number is added only if it isn't in the set yet. An error is an allocation
+/// failure.
 fn set_of(alloc: Global, numbers: &[u32]) -> Result<NumberSet, AllocError> {
     let mut set = NumberSet::new(alloc);
     for number in numbers {

@@ -1,10 +1,10 @@
-//! `ObjectAccesses`, what accesses do to the bytes of an object.
+//! `ObjectAccesses`, the effects of accesses on the bytes of an object.
 use crate::access::Access;
 use crate::bytes::ObjectBytes;
 use mesh_configurations::Calls;
 use std::alloc::{AllocError, Global};
 
-/// The bytes of an object as the state that a judge follows.
+/// The calls of an object whose state is its bytes, for a judge.
 pub struct ObjectAccesses;
 
 impl Calls for ObjectAccesses {

@@ -14,12 +14,12 @@ use std::marker::Model;
 
 mod prints;
 
-/// The bytes of one object. Bytes that were never stored are 0. They take no memory, except in a chunk of 64 bytes in
-/// which some byte was stored.
+/// The bytes of one object. Bytes that were never stored are 0. Only a chunk of 64 bytes in which some byte was stored
+/// takes memory.
 ///
-/// Which chunks are kept depends only on which stores took effect. So two configurations of a judge keep the same
-/// chunks if the same calls took effect in both and their bytes are equal. The judge then counts them as one
-/// configuration.
+/// The kept chunks depend only on which stores took effect. Assume that the same calls took effect in two
+/// configurations of a judge, and that their bytes are equal. Then both keep the same chunks, and the judge counts them
+/// as one configuration.
 #[derive(Drop)]
 pub struct ObjectBytes {
     len: u64,
@@ -46,14 +46,14 @@ impl ObjectBytes {
         }
     }
 
-    /// How many bytes there are.
+    /// Returns the number of bytes.
     pub fn len(&self) -> u64
         ensures { result ≡ length (bytes_of self.now) }
     {
         self.len
     }
 
-    /// Returns the `len` bytes from offset `off` on.
+    /// Returns the `len` bytes that begin at offset `off`.
     pub fn load(&self, off: u64, len: u32) -> ArrayVec<u8, MAX_BYTES>
         requires fits { off + len ≤ length (bytes_of self.now) }
         requires few { len ≤ 32 }
@@ -65,7 +65,7 @@ impl ObjectBytes {
         bytes
     }
 
-    /// Fills `out` with the bytes from offset `off` on.
+    /// Fills `out` with the bytes that begin at offset `off`.
     fn read(&self, off: u64, out: &mut [u8])
         requires fits { off + length out.old ≤ length (bytes_of self.now) }
         requires few { length out.old ≤ 32 }
@@ -79,7 +79,7 @@ impl ObjectBytes {
         }
     }
 
-    /// The `len` bytes of one chunk from `place` on.
+    /// Returns the `len` bytes that begin at `place` in the chunk with this number.
     fn run(&self, number: u64, place: usize, len: usize) -> &[u8]
         requires one_chunk { place + len ≤ 64 }
         requires fits { number * 64 + place + len ≤ length (bytes_of self.now) }
@@ -88,14 +88,14 @@ impl ObjectBytes {
         &chunk(self.chunks.as_slice(), number)[place..place + len]
     }
 
-    /// Whether the range of `len` bytes from `off` on ends past the object's bytes.
+    /// Whether the range of `len` bytes that begins at offset `off` ends past the object's bytes.
     pub(crate) fn ends_past(&self, off: u64, len: usize) -> bool
         ensures { result ≡ ends_past (bytes_of self.now) off len }
     {
         self.len < off || self.len - off < len as u64
     }
 
-    /// Whether a load of `len` bytes from offset `off` on answers `answered`.
+    /// Whether a load of `len` bytes from offset `off` stays within the object and returns exactly `answered`.
     pub(crate) fn answers(&self, off: u64, len: u32, answered: &[u8]) -> bool
         requires { length answered.now ≤ 32 }
         ensures { result ≡ (nat_eq len (length answered.now) &&
@@ -105,7 +105,7 @@ impl ObjectBytes {
         len as usize == answered.len() && self.has(off, answered)
     }
 
-    /// Whether the object has these bytes from offset `off` on.
+    /// Whether the object has exactly these bytes at offset `off`. `false` if they would end past the object's bytes.
     fn has(&self, off: u64, bytes: &[u8]) -> bool
         requires { length bytes.now ≤ 32 }
         ensures { result ≡ (not (ends_past (bytes_of self.now) off (length bytes.now))
@@ -117,7 +117,7 @@ impl ObjectBytes {
         bytes == self.load(off, bytes.len() as u32).as_slice()
     }
 
-    /// Returns a copy with other bytes stored from an offset on. An error is an allocation failure, here and below.
+    /// Returns a copy in which `bytes` are stored at offset `off`. An error is an allocation failure.
     pub(crate) fn stored(
         &self,
         alloc: Global,
@@ -136,7 +136,7 @@ impl ObjectBytes {
         })
     }
 
-    /// How many chunks are kept.
+    /// Returns the number of kept chunks.
     #[cfg(test)]
     pub(crate) fn chunk_count(&self) -> usize
         ensures { result ≡ length self.now.chunks }
@@ -145,7 +145,7 @@ impl ObjectBytes {
         self.chunks.len()
     }
 
-    /// Returns a copy.
+    /// Returns a copy. An error is an allocation failure.
     pub(crate) fn copied(&self, alloc: Global) -> Result<ObjectBytes, AllocError>
         ensures { IfOk result (λ copy. copy ≡ self.now) }
     {
@@ -157,7 +157,7 @@ impl ObjectBytes {
     }
 }
 
-/// Stores bytes in the chunks from an offset on.
+/// Stores `bytes` in the chunks at offset `off`. An error is an allocation failure.
 fn store_in(chunks: &mut Vec<Chunk>, off: u64, bytes: &[u8]) -> Result<(), AllocError>
     requires { length bytes.now ≤ 32 }
     ensures { OnOk result (chunks.new.items ≡ stored chunks.old.items off bytes.now) }
@@ -174,7 +174,7 @@ fn store_in(chunks: &mut Vec<Chunk>, off: u64, bytes: &[u8]) -> Result<(), Alloc
     store_run(chunks, number + 1, 0, rest)
 }
 
-/// The number of the chunk that contains an offset, and the offset's place in that chunk.
+/// Returns the number of the chunk that contains an offset, and the offset's place in that chunk.
 fn chunk_and_place(offset: u64) -> (u64, usize)
     ensures offset { result.0 * 64 + result.1 ≡ offset }
     ensures place { result.1 < 64 }
@@ -184,7 +184,7 @@ fn chunk_and_place(offset: u64) -> (u64, usize)
     (offset / chunk_bytes, (offset % chunk_bytes) as usize)
 }
 
-/// How many of `len` bytes from `place` on are in that place's chunk.
+/// Returns how many of the `len` bytes that begin at `place` of a chunk are in that chunk.
 fn first_run(place: usize, len: usize) -> usize
     requires { place < 64 }
     ensures within { result ≤ len }

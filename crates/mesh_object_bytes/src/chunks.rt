@@ -6,7 +6,7 @@ ghost use Rattle.mesh_object_bytes.specs.Chunks.{chunk_bytes, index_of, stored};
 use crate::chunk::{CHUNK_BYTES, Chunk, ZEROS};
 use std::alloc::AllocError;
 
-/// The bytes of the chunk with a number.
+/// Returns the 64 bytes of the chunk with this number. They are zeros if the chunk isn't kept.
 pub(crate) fn chunk(chunks: &[Chunk], number: u64) -> &[u8]
     ensures bytes { result.now ≡ chunk_bytes number chunks.now }
     ensures sized { length result.now ≡ 64 }
@@ -18,7 +18,8 @@ pub(crate) fn chunk(chunks: &[Chunk], number: u64) -> &[u8]
     all_bytes(&ZEROS)
 }
 
-/// The place of the first chunk whose number is at least this one.
+/// Returns the place of the first kept chunk whose number is this number or above. Returns the count of kept chunks if
+/// no chunk has such a number.
 fn index_of(chunks: &[Chunk], number: u64) -> usize
     ensures is { result ≡ index_of number chunks.now }
     ensures within { result ≤ length chunks.now }
@@ -41,7 +42,7 @@ fn all_bytes(bytes: &[u8; CHUNK_BYTES]) -> &[u8]
     bytes.as_slice()
 }
 
-/// Stores bytes in the chunk with a number, from a place on. An error is an allocation failure.
+/// Stores bytes in the chunk with this number, starting at `place`. An error is an allocation failure.
 pub(crate) fn store_run(
     chunks: &mut Vec<Chunk>,
     number: u64,
@@ -70,7 +71,7 @@ pub(crate) fn store_run(
     Ok(())
 }
 
-/// Writes bytes into a chunk from a place on.
+/// Writes bytes into a chunk, starting at `place`.
 fn write(chunk: &mut [u8; CHUNK_BYTES], place: usize, bytes: &[u8])
     requires { place + length bytes.now ≤ 64 }
     ensures written { chunk.new ≡ overwritten chunk.old place bytes.now }

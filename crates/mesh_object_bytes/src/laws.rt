@@ -1,7 +1,8 @@
 //! A lemma about accesses. It is the contract of a function that does nothing.
 ghost use Rattle.mesh_object_bytes.specs.ObjectBytes.{EffectIsAccess};
 
-/// The effect of an access on an object's state is its effect on the object's bytes.
+/// An access has an effect on an object's state if and only if it has one on the object's bytes. The bytes of the new
+/// state are then the new bytes.
 pub fn effect_is_access()
     ensures { EffectIsAccess }
 {}

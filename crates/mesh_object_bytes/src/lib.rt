@@ -1,6 +1,6 @@
 //! The bytes of one object, as the state of a judge of overlapping calls. Only chunks with stored bytes take memory.
 //!
-//! An access of the object is recorded as an [`Access`]. [`ObjectAccesses`] defines what accesses do to
+//! An access to the object is recorded as an [`Access`]. [`ObjectAccesses`] defines the effects of accesses on
 //! [`ObjectBytes`].
 #![tactic(auto)]
 

@@ -8,7 +8,7 @@ use mesh_pool::Value;
 use model_words::MAX_BYTES;
 use std::alloc::{AllocError, Global};
 
-/// How many bytes the object of the random accesses has.
+/// The number of bytes of the object that the random accesses use.
 const LEN: usize = 200;
 
 /// A number below the bound, by a linear congruential generator.
@@ -22,7 +22,7 @@ fn random(seed: &mut u64, bound: usize) -> usize
     (*seed >> 33) as usize % bound
 }
 
-/// Some bytes.
+/// Returns a vector of the first 32 of these bytes.
 fn bytes_of(some: &[u8]) -> ArrayVec<u8, MAX_BYTES> {
     let mut bytes = ArrayVec::new();
     for byte in some {
@@ -31,14 +31,14 @@ fn bytes_of(some: &[u8]) -> ArrayVec<u8, MAX_BYTES> {
     bytes
 }
 
-/// A load from an offset on that asks for as many bytes as it is answered with.
+/// Returns a load at offset `off` that asked for exactly as many bytes as `answered` has.
 fn load_of(off: u64, answered: &[u8]) -> Access {
     let bytes = bytes_of(answered);
     Access::Load(off, bytes.len() as u32, bytes)
 }
 
-/// A random access, most often a store or a load of at most 32 bytes. A load is answered with what the array has, with
-/// another byte, or with another number of bytes than was asked for.
+/// Returns a random access, most often a store or a load of at most 32 bytes. A load is answered with the bytes of the
+/// array, with one wrong byte, or with another number of bytes than was asked for.
 fn random_access(seed: &mut u64, plain: &[u8; LEN]) -> Access {
     match random(seed, 20) {
         0 => return Access::Nothing,
@@ -75,7 +75,7 @@ fn random_access(seed: &mut u64, plain: &[u8; LEN]) -> Access {
     Access::Load(off as u64, asked as u32, bytes)
 }
 
-/// The array after an access. `None` if the access was answered wrongly.
+/// Returns the array after an access. Returns `None` if the recorded answer is wrong or the access ends past the array.
 fn behind(plain: &[u8; LEN], access: &Access) -> Option<[u8; LEN]> {
     let mut next = *plain;
     match access {
@@ -107,8 +107,9 @@ fn behind(plain: &[u8; LEN], access: &Access) -> Option<[u8; LEN]> {
     Some(next)
 }
 
-/// Whether a random access has an effect on the state if and only if it has one on the array. If so, state and array
-/// become those after the access.
+/// Makes a random access to the state and to the array. Returns whether the access has an effect on both or on neither.
+/// If it has an effect on both, they become the state and the array after the access. An error is an allocation
+/// failure.
 fn goes_on(
     alloc: Global,
     seed: &mut u64,
@@ -130,7 +131,7 @@ fn goes_on(
     }
 }
 
-/// Whether loads find all bytes of the array.
+/// Whether loads from the state return all bytes of the array. An error is an allocation failure.
 fn has_all(alloc: Global, state: &ObjectBytes, plain: &[u8; LEN]) -> Result<bool, AllocError> {
     for (number, some) in plain.chunks(20).enumerate() {
         let load = load_of((number * 20) as u64, some);
@@ -160,7 +161,8 @@ fn random_accesses_do_what_they_do_to_an_array(rt: HostRuntime) {
     }
 }
 
-/// The state after stores, if all of them are within the object. An error is an allocation failure.
+/// Returns the state after stores of two equal bytes each. Returns `None` if a store ends past the object's end. An
+/// error is an allocation failure.
 fn stored(
     alloc: Global,
     len: u64,

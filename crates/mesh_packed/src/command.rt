@@ -6,13 +6,14 @@ ghost use Rattle.mesh_packed.specs.Runs.{HasRoom, IsKeptOn};
 use crate::run::{Run, bytes_of, keep};
 use model_words::Command;
 
-/// A command without its bytes, in 16 bytes. Each variant has the meaning of the command of that name. The fields are
-/// in memory in their order, so the two cells of `Copy` are adjacent. `Put` has the run of its bytes.
+/// A command without its bytes, in 16 bytes. Each variant is the packed `Command` variant of the same name. The fields
+/// are in memory in the order of the variant, so the two cells of `Copy` are adjacent. `Put` has the run of the stored
+/// bytes.
 #[derive(Drop)]
 pub enum PackedCommand {
     /// `New(cell, len, word)`.
     New(u8, u32, u64),
-    /// `Put(cell, off, run)`: the stored bytes are those of the run.
+    /// `Put(cell, off, run)`: the command stores the bytes of the run.
     Put(u8, u32, Run),
     /// `Get(cell, off, len)`.
     Get(u8, u32, u32),
@@ -30,7 +31,8 @@ pub enum PackedCommand {
     Copy(u8, u8, u32, u32, u32),
 }
 
-/// Packs a command. Its bytes, at most 32, are appended to those that are kept; there must be room for them.
+/// Packs a command. Appends the bytes that the command stores, at most 32, to the kept bytes, which must have room for
+/// them.
 pub fn pack_command(kept: &mut Vec<u8>, command: &Command) -> PackedCommand
     requires { HasRoom kept.old }
     ensures command { command_in kept.new.items result ≡ command.now }

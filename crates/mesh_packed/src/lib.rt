@@ -1,8 +1,8 @@
-//! Commands and replies in few bytes; the bytes that they store or load are kept in a separate list.
+//! Commands and replies in few bytes. The bytes that they store or load are kept in a separate list.
 //!
-//! Most commands and replies have no bytes. A packed command takes 16 bytes and a packed reply 12; a `Command` takes
-//! 48. All their bytes are in one list, in the order of packing, and bytes that were kept never change. Scripts and the
-//! journal are stored this way. Contracts see what a packed command is unpacked to (`specs/Packed.antt`).
+//! Most commands and replies have no such bytes. A packed command takes 16 bytes, a packed reply 12, and a `Command`
+//! 48. The kept bytes are in one list, in the order of packing, and never change. Scripts and the journal are stored in
+//! this way. A contract sees a packed command as the command that it is unpacked to (`specs/Packed.antt`).
 #![tactic(auto)]
 
 mod command;

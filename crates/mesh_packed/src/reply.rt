@@ -9,21 +9,21 @@ use model_words::{Refusal, Reply};
 /// A reply without its bytes, in 12 bytes.
 #[derive(Drop)]
 pub enum PackedReply {
-    /// `Object(serial, addr)`
+    /// `Object(serial, addr)`.
     Object(u32, u32),
-    /// `Done`
+    /// `Done`.
     Done,
-    /// `Bytes(bytes)`, with where its bytes are kept.
+    /// `Bytes(run)`: the reply has the bytes of the run.
     Bytes(Run),
-    /// `At(addr)`
+    /// `At(addr)`.
     At(u32),
-    /// `Byte(byte)`
+    /// `Byte(byte)`.
     Byte(u8),
-    /// `Refused(refusal)`
+    /// `Refused(refusal)`.
     Refused(Refusal),
 }
 
-/// Packs a reply. Its bytes, at most 32, are appended to those that are kept; there must be room for them.
+/// Packs a reply. Appends the reply's bytes, at most 32, to the kept bytes, which must have room for them.
 pub fn pack_reply(kept: &mut Vec<u8>, reply: &Reply) -> PackedReply
     requires { HasRoom kept.old }
     ensures reply { reply_in kept.new.items result ≡ reply.now }

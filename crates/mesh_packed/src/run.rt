@@ -1,4 +1,4 @@
-//! Where the bytes of a command or a reply are kept.
+//! `Run`, the range in which the bytes of a command or a reply are kept.
 ghost use Rattle.std.specs.Prelude.{◌≡◌, ◌++◌, length};
 ghost use Rattle.arrayvec.specs.ArrayVec.{array_vec_len};
 ghost use Rattle.mesh_packed.specs.Runs.{HasRoom, IsKeptOn, IsRunWithin, run_in};
@@ -6,16 +6,16 @@ ghost use Rattle.mesh_packed.specs.Runs.{HasRoom, IsKeptOn, IsRunWithin, run_in}
 use arrayvec::ArrayVec;
 use model_words::MAX_BYTES;
 
-/// The range of some bytes in the list of kept bytes: `len` bytes from `place` on.
+/// A range in the list of kept bytes: the `len` bytes that begin at `place`.
 #[derive(Clone, Copy)]
 pub struct Run {
     /// The place of the first byte.
     pub place: u32,
-    /// How many bytes there are.
+    /// The number of bytes, at most 32.
     pub len: u8,
 }
 
-/// Appends up to 32 bytes to the list, which has room for them, and returns their run.
+/// Appends at most 32 bytes to the list, and returns their run. The list must have room for them.
 pub(crate) fn keep(kept: &mut Vec<u8>, bytes: &ArrayVec<u8, MAX_BYTES>) -> Run
     requires { HasRoom kept.old }
     ensures bytes { run_in kept.new.items result ≡ bytes.now }
@@ -31,7 +31,7 @@ pub(crate) fn keep(kept: &mut Vec<u8>, bytes: &ArrayVec<u8, MAX_BYTES>) -> Run
     run
 }
 
-/// The bytes of a run.
+/// Returns the bytes of a run.
 pub(crate) fn bytes_of(kept: &[u8], run: Run) -> ArrayVec<u8, MAX_BYTES>
     requires { IsRunWithin (length kept.now) run }
     ensures { result ≡ run_in kept.now run }

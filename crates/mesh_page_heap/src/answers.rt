@@ -7,19 +7,19 @@ use mesh_spans::{Slot, Span};
 /// The counts of a heap.
 #[derive(Clone, Copy, Debug, PartialEq, Eq)]
 pub struct Report {
-    /// How many objects are live.
+    /// The number of live objects.
     pub objects: u32,
     /// The total length of the live objects, in bytes.
     pub bytes: u32,
-    /// How many virtual pages are mapped.
+    /// The number of mapped virtual pages.
     pub mapped: u32,
-    /// How many physical pages are taken.
+    /// The number of taken physical pages.
     pub taken: u32,
-    /// How many more pages are mapped than taken: the pages that meshing saves.
+    /// The number of mapped virtual pages minus the number of taken physical pages: the pages that meshing saves.
     pub saved: u32,
 }
 
-/// The object in whose slot an address is, and where that slot is.
+/// The object whose slot contains a given address, with its span and slot, and the offset of the address in the slot.
 #[derive(Clone, Copy)]
 pub struct Occupied {
     /// The object's span.

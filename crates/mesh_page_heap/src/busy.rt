@@ -1,6 +1,6 @@
-//! `Busy`, which running meshes prevent a mesh from beginning.
+//! `Busy`: the running meshes that prevent a mesh from beginning.
 
-/// Which running meshes keep a class busy, so that no mesh of it begins.
+/// The running meshes that make a class busy. No mesh of a busy class can begin.
 #[derive(Clone, Copy)]
 pub enum Busy {
     /// A mesh of the class.

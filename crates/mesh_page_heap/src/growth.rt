@@ -8,7 +8,8 @@ use mesh_arena::{Arena, Page};
 use mesh_pagemap::{PageMap, Prot};
 use mesh_spans::MAX_SPAN_PAGES;
 
-/// Takes the lowest `count` free pages, ascending, each of them zeros.
+/// Takes the `count` free pages with the lowest numbers, and returns them in ascending order. Each page is filled with
+/// zeros.
 pub fn take_pages(arena: &mut Arena, count: u32) -> ArrayVec<Page, MAX_SPAN_PAGES>
     requires few { count ≤ 3 }
     requires room { count ≤ free_count arena.old }
@@ -35,7 +36,7 @@ pub fn give_pages(arena: &mut Arena, pages: &[Page])
     }
 }
 
-/// Maps virtual pages from `first` on to these pages, in order, for reading and writing.
+/// Maps consecutive virtual pages, from `first` on, to the given pages in order. The mapped virtual pages are writable.
 pub fn map_pages(map: &mut PageMap, first: u32, pages: &[Page])
     requires first { 1 ≤ first }
     requires last { first + length pages.now ≤ 65536 }

@@ -1,10 +1,11 @@
 //! The page heap: physical pages, page map, span index and running meshes together.
 //!
-//! The page heap assigns no serials, and doesn't define what a heap means.
+//! The page heap assigns no serials, and doesn't define the meaning of a heap (the reference memory that a heap
+//! represents).
 //!
 //! `PageHeap` places, finds, reads, stores and clears objects in slots, and begins, steps and cancels meshes.
-//! `StepOrder` of `mesh_running` gives the number of steps of a mesh and which step is next. `steps` contains what a
-//! step does to pages and page map. The heap of objects that mutators use is built on this crate (`mesh_steps`).
+//! `StepOrder` of `mesh_running` gives the number of steps of a mesh and the next step. The module `steps` applies a
+//! step to pages and page map. The crate `mesh_steps` builds the heap of objects for mutators on this crate.
 //!
 //! A contract sees a page heap as its physical pages, its page map, its span index, the next virtual page and the
 //! running meshes.

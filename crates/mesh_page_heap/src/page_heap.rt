@@ -1,4 +1,5 @@
-//! `PageHeap`: physical pages, page map and span index together. It assigns no serials and defines no meaning.
+//! `PageHeap`: physical pages, page map, span index and running meshes together. A page heap assigns no serials, and
+//! doesn't define the meaning of a heap.
 ghost use Rattle.std.specs.Prelude.{◌≡◌, ℕ, ◌+◌, ◌<◌, ◌≤◌, ◌↔◌, Some, replicate, length, IsTrue, slice_get, slice_index, IfOk, IfErr, IfSome, IsSome, IsSomeAnd};
 ghost use Rattle.std.specs.Bool.{OnFalse};
 ghost use Rattle.std.specs.Option.{option_map};
@@ -37,7 +38,7 @@ const END_OF_VIRTUAL_PAGES: u32 = 65_536;
 /// The bytes of a new object.
 static ZEROS: [u8; 2048] = [0; 2048];
 
-/// Physical pages, the page map over them, and the index of the mapped spans.
+/// Physical pages, the page map over them, the index of the mapped spans, and the running meshes.
 pub struct PageHeap {
     store: Store,
     spans: Spans,
@@ -68,7 +69,8 @@ impl Drop for PageHeap {
 }
 
 impl PageHeap {
-    /// Creates a page heap over `pages` physical pages, 1 to 4,096, without spans. An error is an allocation failure.
+    /// Creates a page heap without spans over `pages` physical pages, 1 to 4,096. Returns an error if an allocation
+    /// fails.
     pub fn open(alloc: Global, pages: u32) -> Result<PageHeap, AllocError>
         requires some { 1 ≤ pages }
         requires most { pages ≤ 4096 }
@@ -94,12 +96,17 @@ impl PageHeap {
         self.spans.sound();
     }
 
-    /// Returns the slot that the next object of the class takes: that of `Spans::open_slot`, or, if no group is open, a
-    /// slot of a new span. In a new span it is the slot `word` modulo the number of slots.
+    /// Returns the slot for the next object of the class. It is the slot that `Spans::open_slot` returns or, if no
+    /// group of the class is open, a slot of a new span. In the new span, it is the slot with the number `word` modulo
+    /// the number of slots.
     ///
-    /// The error is NO_PAGES if the arena has fewer free pages than the new span needs, and NO_ADDRESSES if fewer
-    /// virtual pages are left, the first that applies. It is Memory if an allocation for the records fails. After an
-    /// error nothing has changed.
+    /// If a new span is needed, the error is the first of these that applies:
+    ///
+    /// - NO_PAGES, if the arena has fewer free pages than the span needs.
+    /// - NO_ADDRESSES, if fewer virtual pages are left than the span needs.
+    /// - `Memory`, if an allocation for the records of the span fails.
+    ///
+    /// After an error, nothing has changed.
     pub fn place(&mut self, class: Class, word: u64) -> Result<(Span, Slot), NewFault>
         ensures ok { IfOk result (λ r. IsPlace self.old self.new class word r.0 r.1) }
         ensures err { IfErr result (IsPlaceFault self.old self.new class) }
@@ -115,7 +122,8 @@ impl PageHeap {
         }
     }
 
-    /// Adds a span of the class, on the lowest unused virtual pages. If it fails, the pages that it took are freed.
+    /// Adds a span of the class on the lowest virtual pages that were never used. The errors are those of `place`.
+    /// After an error, nothing has changed.
     fn add_span(&mut self, class: Class) -> Result<Span, NewFault>
         ensures ok { IfOk result (λ span. IsFreshSpan self.old self.new class span) }
         ensures err { IfErr result (IsSpanFault self.old self.new class) }
@@ -143,7 +151,8 @@ impl PageHeap {
         }
     }
 
-    /// Places an object of `len` zeros in a vacant slot of a group that is in no mesh, and returns its address.
+    /// Places an object of `len` zeros in a vacant slot, and returns the object's address. The slot must be one of the
+    /// first member of a group that is in no mesh.
     pub fn put(&mut self, span: Span, slot: Slot, serial: u32, len: u32) -> u32
         requires free { IsFreeSlot self.old.index (span_at self.old.index.spans span).class span slot }
         requires some { 1 ≤ len }
@@ -163,7 +172,7 @@ impl PageHeap {
         addr
     }
 
-    /// Removes an object from its slot. Its bytes stay.
+    /// Removes an object from its slot. Arena and page map don't change.
     pub fn take_out(&mut self, span: Span, slot: Slot)
         requires there { IsSome (record_at self.old.index span slot) }
         requires sound { IsSound (table_emptied self.old span slot) }
@@ -174,7 +183,7 @@ impl PageHeap {
         self.spans.vacate(span, slot);
     }
 
-    /// Returns the object in whose slot an address is. `None` only if there is none.
+    /// Returns the object whose slot contains an address. Returns `None` if no object's slot contains the address.
     pub fn occupied_at(&self, addr: u32) -> Option<Occupied>
         ensures there { IfSome result (λ o. IsInSlotOf self.now.index addr o.span o.slot o.offset o.serial o.len) }
         ensures found { (n place k o : ℕ) (group : GroupEntry) (serial len : ℕ)
@@ -200,7 +209,7 @@ impl PageHeap {
         })
     }
 
-    /// The class of a group. `None` only if the number is no group.
+    /// Returns the class of group `n`, or `None` if no group has this number.
     pub fn class_of(&self, n: u32) -> Option<Class>
         ensures { result ≡ option_map (λ g. g.class) (group_of (table_in self.now) n) }
     {
@@ -210,14 +219,14 @@ impl PageHeap {
         Some(group.class())
     }
 
-    /// The groups of a class that may be paired. An error is an allocation failure.
+    /// Returns the candidates of a class: the groups that a search may pair. Returns an error if an allocation fails.
     pub fn view(&self, alloc: Global, class: Class) -> Result<ClassView, AllocError>
         ensures { IfOk result (λ view. view ≡ view_of (table_in self.now) class) }
     {
         class_view(alloc, &self.spans, class)
     }
 
-    /// Returns the counts. It looks at no group and no page.
+    /// Returns the counts of the heap, without a visit to any group or page.
     pub fn report(&self) -> Report
         ensures { counts_told result ≡ report_of (length self.now.arena) (table_in self.now) }
     {
@@ -233,7 +242,7 @@ impl PageHeap {
         }
     }
 
-    /// Fills `out` with the bytes from an address on. All of them belong to one object.
+    /// Fills `out` with the bytes from address `addr` on. All these bytes must belong to one live object.
     pub fn load(&self, addr: u32, out: &mut [u8])
         requires some { 1 ≤ length out.old }
         requires few { length out.old ≤ 2048 }
@@ -244,7 +253,7 @@ impl PageHeap {
         self.store.load(addr, out);
     }
 
-    /// Whether a store to bytes of one object is blocked.
+    /// Whether a store to `len` bytes of one object, from address `addr` on, is blocked.
     pub fn blocked(&self, addr: u32, len: u32) -> bool
         requires some { 1 ≤ len }
         requires few { len ≤ 2048 }
@@ -256,7 +265,7 @@ impl PageHeap {
         self.store.blocked(addr, len)
     }
 
-    /// Writes bytes at addresses of one object. A store to them must not be blocked.
+    /// Writes `bytes` from address `addr` on, within one live object. No page of this range may be read-only.
     pub fn save(&mut self, addr: u32, bytes: &[u8])
         requires some { 1 ≤ length bytes.now }
         requires few { length bytes.now ≤ 2048 }

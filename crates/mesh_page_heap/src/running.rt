@@ -6,7 +6,7 @@ use arrayvec::ArrayVec;
 use mesh_class::Class;
 use mesh_running::Running;
 
-/// The most meshes that run at once: one of each size class.
+/// The maximal number of running meshes: one of each size class.
 pub(crate) const MAX_MESHES: usize = 10;
 
 /// Replaces the mesh at a place.
@@ -17,7 +17,7 @@ pub(crate) fn replace(meshes: &mut ArrayVec<Running, MAX_MESHES>, place: usize, 
     meshes[place] = mesh;
 }
 
-/// The place of the mesh of a class in the list.
+/// Returns the index of the mesh of `class` in the list, or `None` if the list has no such mesh.
 pub(crate) fn place_of(meshes: &[Running], class: Class) -> Option<usize>
     ensures { result ≡ position (λ mesh. nat_eq mesh.class class) meshes.now }
 {
@@ -26,14 +26,14 @@ pub(crate) fn place_of(meshes: &[Running], class: Class) -> Option<usize>
         .position(|mesh| mesh.class().size() == class.size())
 }
 
-/// The place of the mesh from a group in the list.
+/// Returns the index of the mesh from group `source` in the list, or `None` if the list has no such mesh.
 fn source_place(meshes: &[Running], source: u32) -> Option<usize>
     ensures { result ≡ position (λ mesh. nat_eq mesh.source source) meshes.now }
 {
     meshes.iter().position(|mesh| mesh.source() == source)
 }
 
-/// The mesh from a group.
+/// Returns the mesh from group `source`, or `None` if the list has no such mesh.
 pub(crate) fn mesh_of(meshes: &[Running], source: u32) -> Option<Running>
     ensures { result ≡ mesh_from source meshes.now }
 {

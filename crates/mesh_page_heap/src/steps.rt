@@ -13,10 +13,10 @@ use mesh_spans::{Slot, Spans};
 use mesh_store::Store;
 use model_words::StepKind;
 
-/// How many bytes a page has.
+/// The size of a page in bytes.
 const PAGE_BYTES: u32 = 4096;
 
-/// Makes the step that is number `i` of its kind in a mesh from `source` into `destination`.
+/// Makes a step of a mesh from `source` into `destination`: number `i` of the steps of kind `kind`, counted from 0.
 pub(crate) fn make(
     store: &mut Store,
     spans: &Spans,
@@ -60,7 +60,7 @@ fn pages_of_group(spans: &Spans, n: u32) -> u32
     spans.group(n).unwrap().class().pages()
 }
 
-/// Virtual page number `i` of a group, counted through its members.
+/// Returns virtual page number `i` of group `n`. The pages are counted from 0, one member after another.
 pub(crate) fn virtual_page(spans: &Spans, n: u32, i: u32) -> u32
     requires { i < page_total (layout_of spans.now) n }
     ensures value { result ≡ virtual_page (layout_of spans.now) n i }
@@ -83,7 +83,7 @@ pub(crate) fn physical_page(spans: &Spans, n: u32, j: u32) -> Page
     spans.group(n).unwrap().pages()[j as usize]
 }
 
-/// Copies the object in slot `k` of the source, if there is one.
+/// Copies the bytes of the object in slot `k` of the source to the destination's pages, if the slot has an object.
 fn copy_slot(arena: &mut Arena, spans: &Spans, source: u32, destination: u32, k: u32)
     requires { CanCopy (layout_of spans.now) arena.old source destination k }
     ensures { CopiesSlot (layout_of spans.now) arena.old arena.new source destination k
@@ -96,7 +96,8 @@ fn copy_slot(arena: &mut Arena, spans: &Spans, source: u32, destination: u32, k:
     }
 }
 
-/// Copies bytes that are in one or two of the source's pages, from an offset among these pages on.
+/// Copies `len` bytes from the source's pages to the destination's pages, from offset `from` on. An offset is counted
+/// through a group's pages. The bytes are in one or two pages.
 fn copy_bytes(arena: &mut Arena, spans: &Spans, source: u32, destination: u32, from: u32, len: u32)
     requires pages { HaveBothPages (layout_of spans.now) arena.old source destination }
     requires some { 1 ≤ len }

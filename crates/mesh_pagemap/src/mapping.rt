@@ -1,12 +1,12 @@
-//! `Mapping`, the physical page of a virtual page.
+//! `Mapping`, a virtual page with its physical page and its protection.
 
-/// The physical page that a virtual page is mapped to.
+/// A mapped virtual page, with its physical page and its protection.
 #[derive(Clone, Copy, PartialEq, Eq)]
 pub struct Mapping {
-    /// The virtual page.
+    /// The number of the virtual page.
     pub virtual_page: u32,
-    /// The physical page.
+    /// The number of the physical page.
     pub physical_page: u32,
-    /// Whether stores to it are blocked.
+    /// Whether stores to the virtual page are blocked.
     pub read_only: bool,
 }

@@ -8,22 +8,22 @@ use mesh_arena::Page;
 use std::alloc::{AllocError, Global};
 use std::marker::Model;
 
-/// The last virtual page that can be mapped. The first is 1, so that no address is 0.
+/// The last virtual page that can be mapped. The first one is page 1, so no address is 0.
 ///
-/// Both are this project's own choice.
+/// Both limits are this project's own choice.
 pub const LAST_VIRTUAL_PAGE: u32 = 65535;
 
-/// Contracts use the literal number.
+/// The contracts write 65535, so `LAST_VIRTUAL_PAGE` must be 65535.
 const _: () = prove!(LAST_VIRTUAL_PAGE == 65535);
 
-/// How many entries the table has room for. The entry of virtual page 0 is never used.
+/// The number of entries that the table has room for. The entry of virtual page 0 is never used.
 const TABLE_PLACES: usize = 65536;
 
-/// The physical page and the protection of each virtual page.
+/// The physical page and the protection of each mapped virtual page.
 #[derive(Drop)]
 pub struct PageMap {
-    /// The entry of each virtual page, at the index of its number. Index 0 stays empty. The table grows to an index
-    /// only when that page or a later one is first mapped, so no more memory is touched than needed.
+    /// The entries, each at the index that is its virtual page's number. The entry at index 0 stays empty. The table
+    /// ends with the highest page that was ever mapped, so memory above that page's entry isn't touched.
     table: Vec<Option<(Page, Prot)>>,
 }
 
@@ -48,7 +48,7 @@ impl Model for PageMap {
 
 #[tactic(auto, using(crate::proofs::Changes::entry_changes))]
 impl PageMap {
-    /// Creates an empty map. Allocates all the memory that the map will ever use.
+    /// Creates an empty map. Allocates all the memory that the map will ever use. An error is an allocation failure.
     pub fn new(alloc: Global) -> Result<PageMap, AllocError>
         ensures empty { IfOk result (λ m. m ≡ map.empty) }
         ensures unmapped { IfOk result (λ m. (v : ℕ) → is_mapped m v ≡ false) }
@@ -57,7 +57,7 @@ impl PageMap {
         Ok(PageMap { table })
     }
 
-    /// Maps a virtual page that is not mapped.
+    /// Maps the unmapped virtual page `vpage` to a physical page, with this protection.
     pub fn map(&mut self, vpage: u32, page: Page, prot: Prot)
         requires first { 1 ≤ vpage }
         requires last { vpage ≤ 65535 }
@@ -80,7 +80,7 @@ impl PageMap {
         self.table[vpage as usize] = None;
     }
 
-    /// Maps a mapped virtual page to another physical page, with the same protection.
+    /// Maps a mapped virtual page to another physical page. The protection stays the same.
     pub fn remap(&mut self, vpage: u32, page: Page)
         requires first { 1 ≤ vpage }
         requires last { vpage ≤ 65535 }
@@ -110,7 +110,8 @@ impl PageMap {
         }
     }
 
-    /// The physical page and the protection of a virtual page. `None` if the page is not mapped.
+    /// Returns the physical page and the protection of a virtual page. Returns `None` if the virtual page is not
+    /// mapped.
     pub fn lookup(&self, vpage: u32) -> Option<(Page, Prot)>
         requires first { 1 ≤ vpage }
         requires last { vpage ≤ 65535 }
@@ -125,7 +126,7 @@ impl PageMap {
     }
 }
 
-/// Extends a table with empty entries so that it includes an index.
+/// Appends empty entries to a table until it has an entry at index `place`.
 fn reach(table: &mut Vec<Option<(Page, Prot)>>, place: usize)
     requires within { place < 65536 }
     requires short { vec_len table.old ≤ 65536 }
@@ -140,7 +141,7 @@ fn reach(table: &mut Vec<Option<(Page, Prot)>>, place: usize)
     }
 }
 
-/// The entry at an index of a table. `None` if the entry is empty or the table doesn't extend that far.
+/// Returns the entry at an index of a table. Returns `None` if the entry is empty or the table ends before the index.
 fn entry_at(table: &[Option<(Page, Prot)>], place: usize) -> Option<(Page, Prot)>
     ensures { result ≡ slice_index_or table.now place None }
 {

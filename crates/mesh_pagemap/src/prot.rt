@@ -1,6 +1,6 @@
 //! The protection of a virtual page.
 
-/// What a virtual page may be used for.
+/// The accesses that a virtual page allows.
 #[derive(Clone, Copy, PartialEq, Eq)]
 pub enum Prot {
     /// Loads only; a store into the page is blocked.

@@ -25,7 +25,7 @@ impl ClassCounts {
         &self.counts
     }
 
-    /// Raises the count of a class.
+    /// Adds `by` to the count of a class.
     pub(crate) fn raise(&mut self, class: Class, by: u32)
         requires { slice_index self.old.counts (class_index class) + by < 2 ^ 32 }
         ensures { self.new.counts
@@ -34,7 +34,7 @@ impl ClassCounts {
         self.counts[class.index() as usize] += by;
     }
 
-    /// Lowers the count of a class.
+    /// Subtracts `by` from the count of a class.
     pub(crate) fn lower(&mut self, class: Class, by: u32)
         requires { by ≤ slice_index self.old.counts (class_index class) }
         ensures { self.new.counts

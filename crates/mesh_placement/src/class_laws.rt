@@ -1,7 +1,8 @@
-//! A bound on the counts by class of a sound table. The contract of a function that does nothing.
+//! A lemma about the counts by class of a sound table. It is the contract of a function that does nothing.
 ghost use Rattle.mesh_placement.specs.ClassLaws.{ObjectsFitPages};
 
-/// The groups of each class have at least the pages of the fewest spans that their objects fit in.
+/// In a sound table, let `k` be the smallest number of spans that have a slot for each object of a class. Then the
+/// groups of the class have at least the physical pages of `k` spans.
 pub fn objects_fit_pages()
     ensures { ObjectsFitPages }
 {}

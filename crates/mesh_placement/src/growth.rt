@@ -9,8 +9,8 @@ use mesh_class::Class;
 use mesh_spans::{MAX_SPAN_PAGES, Span, Spans};
 use std::alloc::AllocError;
 
-/// Adds a span of the class from a virtual page on. The index names physical page 0 for each of its pages: a placement
-/// only counts them.
+/// Adds a span of the class at virtual page `first`. The index records physical page 0 for each page of the span,
+/// because a placement only counts pages. Returns an error, and changes nothing, if an allocation fails.
 pub(crate) fn add_span(spans: &mut Spans, class: Class, first: u32) -> Result<Span, AllocError>
     requires first { 1 ≤ first }
     requires last { first + pages_of class ≤ 65536 }

@@ -27,13 +27,14 @@ use std::marker::Model;
 /// The virtual page after the last one.
 const END_OF_VIRTUAL_PAGES: u32 = 65_536;
 
-/// The number of physical pages: more than virtual pages, so that a new span never lacks one.
+/// The number of physical pages. It is larger than the number of virtual pages, so a new span always gets physical
+/// pages.
 const PHYSICAL_PAGES: u32 = 65_538;
 
 /// Where the objects of a heap are.
 ///
-/// Objects have serials, counted from 0. An object is in a slot of a span, and stays in it until it is freed, whichever
-/// groups are meshed.
+/// Objects have serials, counted from 0. An object stays in one slot of one span until it is freed, even if its group
+/// is meshed.
 pub struct Placement {
     spans: Spans,
     // The lowest virtual page that was never used.
@@ -70,8 +71,8 @@ impl Drop for Placement {
 }
 
 impl Placement {
-    /// Makes a placement without objects. The table of virtual pages is allocated here. An error is an allocation
-    /// failure.
+    /// Makes a placement without objects, and allocates the table of virtual pages. Returns an error if the allocation
+    /// fails.
     pub fn open(alloc: Global) -> Result<Placement, AllocError>
         ensures table { IfOk result (λ p. table_of p ≡ empty_table supply) }
         ensures serial { IfOk result (λ p. p.next_serial ≡ 0) }
@@ -105,12 +106,13 @@ impl Placement {
         self.next_serial == u32::MAX
     }
 
-    /// Makes an object of `len` bytes with the next serial, where a heap would make it: in the lowest group of its
-    /// class that has a free slot, or else in a new span. The word selects the slot among the free ones. `is_full`
-    /// reports whether no serial is left.
+    /// Makes an object of `len` bytes with the next serial. Its slot is the one that a heap would choose: a slot of the
+    /// lowest group of its class that has a free slot, or else of a new span. `word` selects one of the free slots.
+    /// `is_full` must be false before the call.
     ///
-    /// Refused with ZERO, TOO_LARGE or NO_ADDRESSES, the first that holds. `Memory` if the allocation for a new span
-    /// fails. NO_PAGES never comes: there are always enough physical pages.
+    /// The error is the first of ZERO, TOO_LARGE and NO_ADDRESSES that applies. If none applies, but the allocation for
+    /// a new span fails, the error is `Memory`. NO_PAGES is never returned, because there are always enough physical
+    /// pages. After an error, nothing has changed.
     pub fn new(&mut self, len: u32, word: u64) -> Result<(Span, Slot), NewFault>
         requires { self.old.next_serial < 2 ^ 32 - 1 }
         ensures made { IfOk result (λ r. IsMade self.old self.new len word r.0 r.1) }
@@ -161,8 +163,8 @@ impl Placement {
 
     /// Whether a `new` of `len` bytes finds room: an open group of its class, or virtual pages left for a new span.
     ///
-    /// The answer is the same for every word and every serial. `new` may still fail if memory for a new span can't be
-    /// allocated.
+    /// The answer is the same for every word and every serial. Even if there is room, `new` fails if an allocation for
+    /// a new span fails.
     pub fn has_room(&self, len: u32) -> bool
         requires some { 1 ≤ len }
         requires small { len ≤ 2048 }
@@ -181,7 +183,8 @@ impl Placement {
         class.pages() <= END_OF_VIRTUAL_PAGES - self.next_page
     }
 
-    /// Frees the object in a slot of a span. `record` returns it, if there is one.
+    /// Frees the object that a span has in a slot. There must be such an object: `record` must not return `None` for
+    /// the slot.
     pub fn free(&mut self, span: Span, slot: Slot)
         requires { IsSome (record_at self.old.index span slot) }
         ensures { IsFreed self.old self.new span slot }
@@ -233,7 +236,8 @@ impl Placement {
         self.class_objects.by_class()
     }
 
-    /// Serial and length of the object in a slot of a span. `None` only if the slot has no object of the span.
+    /// Returns the serial and the length, in bytes, of the object that a span has in a slot. Returns `None` if the span
+    /// has no object in the slot.
     pub fn record(&self, span: Span, slot: Slot) -> Option<(u32, u32)>
         ensures value { result ≡ record_at self.now.index span slot }
         ensures object { IfSome result (λ r. IsRecorded self.now.index span slot r.0 r.1) }
@@ -241,7 +245,7 @@ impl Placement {
         self.spans.record(span, slot)
     }
 
-    /// The groups of a class that may be paired. An error is an allocation failure.
+    /// Returns the candidates of a class: the groups that a search may pair. Returns an error if an allocation fails.
     pub fn view(&self, alloc: Global, class: Class) -> Result<ClassView, AllocError>
         ensures { IfOk result (λ view. view ≡ view_of (table_of self.now) class) }
     {

@@ -13,7 +13,7 @@ pub fn zeros(alloc: Global, len: usize) -> Result<Vec<u8>, AllocError>
     vec![in alloc; 0u8; len]
 }
 
-/// Returns `len` bytes from an offset on.
+/// Returns the `len` bytes that begin at index `start`.
 pub fn loaded(all: &[u8], start: usize, len: usize) -> ArrayVec<u8, MAX_BYTES>
     requires fits { start + len ≤ length all.now }
     requires few { len ≤ 32 }
@@ -25,7 +25,7 @@ pub fn loaded(all: &[u8], start: usize, len: usize) -> ArrayVec<u8, MAX_BYTES>
     bytes
 }
 
-/// Stores bytes from an offset on.
+/// Overwrites the bytes that begin at index `start`.
 pub fn store_at(all: &mut Vec<u8>, start: usize, bytes: &[u8])
     requires { start + length bytes.now ≤ length all.old.items }
     ensures { all.new.items ≡ overwritten all.old.items start bytes.now }
@@ -33,7 +33,7 @@ pub fn store_at(all: &mut Vec<u8>, start: usize, bytes: &[u8])
     all[start..start + bytes.len()].copy_from_slice(bytes);
 }
 
-/// Copies a range of bytes to the place where another begins. If the two overlap, the bytes from before the copy are
+/// Copies `len` bytes from index `from` to index `to`. If the two ranges overlap, the bytes from before the copy are
 /// copied.
 pub fn copy_within(all: &mut Vec<u8>, to: usize, from: usize, len: usize)
     requires target { to + len ≤ length all.old.items }

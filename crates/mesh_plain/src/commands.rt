@@ -1,4 +1,4 @@
-//! What the commands of a journal do to the reference memory, and what it answers to a read.
+//! Runs commands on the reference memory, and returns its replies.
 ghost use Rattle.std.specs.Prelude.{◌≡◌, ℕ, ◌^◌, ◌+◌, ◌-◌, ◌≤◌, ◌<◌, true, Result, Ok, Err, IfErr, IfOk, IsErr, OnOk, OnErr};
 ghost use Rattle.model_words.specs.Commands.{IsInRange};
 ghost use Rattle.model_memory.specs.Memory.{Memory, next_serial};
@@ -41,8 +41,8 @@ impl Plain {
         }
     }
 
-    /// Performs a command and returns its reply. A new object is put at `address`. An error is an allocation failure,
-    /// and comes only from a `New` or an `Alias`. Then nothing has changed.
+    /// Performs a command and returns its reply. A new object is put at `address`. The error is an allocation failure.
+    /// Only a `New` or an `Alias` can fail, and nothing changes then.
     pub fn answer(&mut self, command: &Command, address: u32) -> Result<Reply, AllocError>
         requires range { IsInRange command.now }
         requires few { next_serial self.old < 2 ^ 32 - 1 }
@@ -54,7 +54,7 @@ impl Plain {
         Ok(reply)
     }
 
-    /// Performs a command and returns its reply.
+    /// Performs a command and returns its reply. The error is an allocation failure.
     fn answer_at(&mut self, command: &Command, address: u32) -> Result<Reply, AllocError>
         requires range { IsInRange command.now }
         requires few { next_serial self.old < 2 ^ 32 - 1 }
@@ -68,7 +68,8 @@ impl Plain {
         }
     }
 
-    /// Makes an object at an address, and returns the reply.
+    /// Makes an object at an address, and returns the reply. The reply is a refusal if `len` is 0 or above 2,048. The
+    /// error is an allocation failure.
     fn answer_new(&mut self, cell: u8, len: u32, address: u32) -> Result<Reply, AllocError>
         requires few { next_serial self.old < 2 ^ 32 - 1 }
         ensures follows { IfOk result
@@ -88,9 +89,11 @@ impl Plain {
         }
     }
 
-    /// Does what an answered command did. For a `New` its reply has the address. A `New` whose reply names no object
-    /// changes nothing, nor does a command that is refused. An error is an allocation failure, and comes only from a
-    /// `New` that made an object or an `Alias`.
+    /// Changes the memory as an answered command did. The object of a `New` gets the address in the reply.
+    ///
+    /// A `New` whose reply names no object changes nothing. Any other command that this memory refuses changes nothing
+    /// either. The error is an allocation failure. Only an `Alias`, or a `New` that made an object, can fail, and
+    /// nothing changes then.
     pub fn apply(&mut self, command: &Command, reply: &Reply) -> Result<(), AllocError>
         requires few { next_serial self.old < 2 ^ 32 - 1 }
         ensures done { OnOk result (self.new ≡ left_by self.old command.now reply.now) }
@@ -131,7 +134,7 @@ impl Plain {
     }
 }
 
-/// The reply to a command that changes the memory, or an allocation failure.
+/// Returns the reply to a command that changes the memory: done or a refusal. Returns an error if `answer` is `Memory`.
 fn done(answer: Result<(), PlainFault>) -> Result<Reply, AllocError>
     ensures done { OnOk answer (result ≡ Ok Reply.Done) }
     ensures refused { IfErr answer
@@ -145,7 +148,7 @@ fn done(answer: Result<(), PlainFault>) -> Result<Reply, AllocError>
     }
 }
 
-/// The reply to a command that is refused.
+/// Returns the reply with the refusal that has the fault's name.
 fn refused(fault: PlainFault) -> Reply
     ensures { (step : Result (Reply × Memory) Refusal) → IsRefusedAs fault step → result ≡ reply_in step }
 {
@@ -158,7 +161,7 @@ fn refused(fault: PlainFault) -> Reply
     })
 }
 
-/// Returns an error if the call failed with an allocation failure. A refusal is no error here.
+/// Returns an error if and only if `answer` is `Memory`. A refusal is not an error here.
 fn only_memory(answer: Result<(), PlainFault>) -> Result<(), AllocError>
     ensures only { OnErr result (answer ≡ Err PlainFault.Memory) }
     ensures told { IfErr answer (λ fault. fault ≡ PlainFault.Memory → IsErr result) }

@@ -1,10 +1,11 @@
-//! Why a call on the reference memory changed nothing.
+//! The errors of calls on the reference memory.
 use std::alloc::AllocError;
 use thiserror::Error;
 
-/// Why a call on the reference memory changed nothing.
+/// The reason why a call on the reference memory changed nothing.
 ///
-/// The first four are the refusals of those names. `Memory` is no refusal: only calls that allocate return it.
+/// `Empty`, `Freed`, `Outside` and `Stray` are the refusals of the same names. `Memory` is not a refusal: only calls
+/// that allocate return it.
 #[derive(Clone, Copy, Debug, PartialEq, Eq, Error)]
 pub enum PlainFault {
     /// The root cell holds no serial.
@@ -13,7 +14,7 @@ pub enum PlainFault {
     /// The object of the serial that the cell holds is no longer live.
     #[error("the object was freed")]
     Freed,
-    /// Offset and length together are above the object's length.
+    /// Offset plus length is greater than the object's length.
     #[error("the range ends past the object")]
     Outside,
     /// The address is in no live object's range.

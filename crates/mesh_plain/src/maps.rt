@@ -1,4 +1,4 @@
-//! What the calls do to the two maps: objects by serial, and serials by root cell.
+//! Functions on the two maps of a memory: objects by serial, and serials by root cell.
 ghost use Rattle.std.specs.Prelude.{◌≡◌, ◌≢◌, ◌+◌, Some, None, [], OnOk, OnErr, slice_range};
 ghost use Rattle.std.specs.Ordering.{nat_cmp};
 ghost use Rattle.std.specs.BTreeMap.{IsOrdered, Updates, get};
@@ -12,7 +12,7 @@ use std::alloc::{AllocError, Global};
 use std::collections::BTreeMap;
 use std::mem;
 
-/// Adds an object and stores its serial in a cell.
+/// Adds an object and stores its serial in a cell. An error is an allocation failure; nothing changes then.
 pub fn add(
     objects: &mut BTreeMap<u32, Stored>,
     roots: &mut BTreeMap<u8, u32>,
@@ -54,7 +54,7 @@ pub fn holder(objects: &BTreeMap<u32, Stored>, address: u32) -> Option<u32>
     first_reaching(objects, address)
 }
 
-/// The first serial in the map's order whose object has the address.
+/// Returns the first serial in the map's order whose object has the address, or `None` if no object has it.
 fn first_reaching(objects: &BTreeMap<u32, Stored>, address: u32) -> Option<u32>
     ensures first { result ≡ first_holder objects.now.entries address }
     ensures ordered { IsOrdered nat_cmp objects.now }
@@ -67,14 +67,15 @@ fn first_reaching(objects: &BTreeMap<u32, Stored>, address: u32) -> Option<u32>
     None
 }
 
-/// Whether the object has the address.
+/// Whether the address is in the object's range.
 fn reaches(object: &Stored, address: u32) -> bool
     ensures { result ≡ has_address object.now address }
 {
     object.address <= address && ((address - object.address) as usize) < object.bytes.len()
 }
 
-/// Stores bytes in a live object.
+/// Stores bytes from offset `off` in the live object of a serial. The error is the first of `Freed` and `Outside` that
+/// holds.
 pub fn overwrite(
     objects: &mut BTreeMap<u32, Stored>,
     serial: u32,
@@ -94,8 +95,8 @@ pub fn overwrite(
     Ok(())
 }
 
-/// Copies a range of one live object's bytes into another's, or within one. Each object is given by its serial and the
-/// start of its range.
+/// Copies `len` bytes from one live object to another, or within one object. `to` and `from` are each a serial and an
+/// offset. The error is the first of `Freed` and `Outside` that holds.
 pub fn copy(
     alloc: Global,
     objects: &mut BTreeMap<u32, Stored>,
@@ -120,7 +121,7 @@ pub fn copy(
     Ok(())
 }
 
-/// Copies a range of an object's bytes within it.
+/// Copies a range of bytes within one object.
 fn copy_in_one(objects: &mut BTreeMap<u32, Stored>, serial: u32, to: usize, from: usize, len: usize)
     requires { HasRange (get nat_cmp objects.old serial) to len × HasRange (get nat_cmp objects.old serial) from len }
     ensures { (x : Object) → get nat_cmp objects.old serial ≡ Some x

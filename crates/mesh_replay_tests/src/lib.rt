@@ -1,6 +1,6 @@
-//! Tests of the program's replays over memory, and of its judgements of recorded histories and reports on them.
+//! Tests of the program's replays, judgements and reports, with input and output in memory.
 //!
-//! The crate has no functions other than its tests, so nothing else in it is proved.
+//! The crate has no functions besides its tests and their helpers, so nothing else in it is proved.
 #![tactic(auto)]
 
 #[cfg(test)]

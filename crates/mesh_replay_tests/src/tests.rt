@@ -8,7 +8,7 @@ mod checks;
 mod replays;
 mod savings;
 
-/// Asserts that the run of a case passed.
+/// Asserts that a case passed. A failure prints the case and its run.
 fn check<N: Display + Drop>(rt: &(impl Abort + AllocGlobal), goes: bool, run: &Ran, case: N) {
     assert!(rt; goes, "{case}: {run:?}");
 }

@@ -43,7 +43,7 @@ pub fn check_run<I: Source + Drop, O: Sink, E: Sink>(
     }
 }
 
-/// Judges the history in the input, writes the verdict, and returns its exit status.
+/// Judges the history in the input, writes the verdict, and returns the exit status of the verdict.
 pub(crate) fn write_verdict<I: Source + Drop, O: Sink>(
     alloc: Global,
     most: u32,

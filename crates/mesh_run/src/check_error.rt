@@ -1,16 +1,16 @@
-//! Why a recorded history isn't judged.
+//! The reasons why a recorded history isn't judged.
 use mesh_devices::ReplayError;
 use mesh_judge::CallError;
 use std::alloc::AllocError;
 use thiserror::Error;
 
-/// Why a recorded history isn't judged, or its verdict isn't written.
+/// The reason why a recorded history isn't judged, or why its verdict isn't written.
 #[derive(Clone, Copy, Debug, PartialEq, Eq, Error)]
 pub enum CheckError {
     /// A fault that stops a replay too.
     #[error("{0}")]
     Replay(ReplayError),
-    /// The call of this line is out of order.
+    /// The call on this line is out of order.
     #[error("line {0}: ORDER")]
     Order(u32),
 }

@@ -4,8 +4,8 @@ ghost use Rattle.std.specs.Prelude.{◌≡◌};
 use mesh_devices::{Sink, Source};
 use std::marker::Model;
 
-/// The devices of a run: the input, standard output, and standard error for a person. Contracts see what each has left
-/// or took, and whether it has failed.
+/// The devices of a run: the input, standard output, and standard error for a person. In contracts, a `Devices` is the
+/// rest of the input, the bytes that each output took, and whether each device has failed.
 #[derive(Drop)]
 pub struct Devices<I: Source, O: Sink, E: Sink> {
     pub(crate) input: I,
@@ -29,7 +29,7 @@ impl<I: Source, O: Sink, E: Sink> Model for Devices<I, O, E> {
 }
 
 impl<I: Source, O: Sink, E: Sink> Devices<I, O, E> {
-    /// A run's devices.
+    /// Returns the devices of a run.
     pub fn new(input: I, output: O, errors: E) -> Devices<I, O, E>
         ensures input { (result.left ≡ I.remaining input) × (result.input_failed ≡ I.has_failed input) }
         ensures output { (result.written ≡ O.written output) × (result.output_failed ≡ O.has_failed output) }

@@ -12,8 +12,8 @@ use std::alloc::Global;
 /// Draws the plan of the job in the input, writes the picture to the output and a fault to `errors`, and returns the
 /// exit status.
 ///
-/// Status and line are those of `replay_run`. Nothing is written to the output if the input failed or its text has a
-/// fault.
+/// The exit status and the line in `errors` are those of `replay_run`. Nothing is written to the output if the input
+/// failed or its text has a fault.
 pub fn draw_run<I: Source, O: Sink, E: Sink>(
     alloc: Global,
     title: &str,

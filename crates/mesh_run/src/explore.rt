@@ -1,4 +1,4 @@
-//! The program's exploration of what a plan leaves.
+//! The program's exploration of the commands that a plan leaves.
 ghost use Rattle.std.specs.Prelude.{◌≡◌, ◌≤◌, false, IfErr, OnOk, length};
 ghost use Rattle.model_jobs.specs.Texts.{ended};
 ghost use Rattle.mesh_explore_text.specs.Explorations.{HasExplored};
@@ -17,12 +17,12 @@ use mesh_reach::Watch;
 use std::alloc::Global;
 
 /// Explores the commands that the plan of the job in the input leaves, writes the report to the output or a fault to
-/// `errors`, and returns the exit status. These criteria decide a verdict. The number of states that were found is
-/// reported to `watch`.
+/// `errors`, and returns the exit status. If a verdict is asked for, `criteria` decide it. The number of states that
+/// were found is reported to `watch`.
 ///
 /// The status is:
 ///
-/// - 0 if everything was written; for a verdict, if all is well;
+/// - 0 if everything was written and, for a verdict, all is well;
 /// - 1 for a verdict if something isn't well;
 /// - 1 with the line `read fault`, `write fault`, `out of memory` or `too many states: more than N; --states raises the
 ///   limit`;
@@ -30,8 +30,8 @@ use std::alloc::Global;
 /// - 2 with `no such outcome` or `no such answer in that phase` if what was asked for doesn't exist;
 /// - 2 with `--never K: no pattern 'worker W: ANSWER | ..'`.
 ///
-/// After an error nothing is written to the output, unless it was the output that failed. If the line can't be written,
-/// the status is the same.
+/// After an error nothing is written to the output, unless the output itself failed. If the line can't be written, the
+/// status is the same.
 pub fn explore_run<I: Source, O: Sink, E: Sink, W: Watch>(
     alloc: Global,
     args: &ExploreArgs<'_>,
@@ -67,7 +67,7 @@ fn shown_of<'a>(shown: &ShownArgs<'a>) -> Shown<'a>
     }
 }
 
-/// Does the same if no verdict is asked for.
+/// Does what `explore_run` does if no verdict is asked for.
 fn listing_run<I: Source, O: Sink, E: Sink, W: Watch>(
     alloc: Global,
     args: &ExploreArgs<'_>,

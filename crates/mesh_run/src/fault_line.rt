@@ -1,4 +1,4 @@
-//! The line that reports why a replay or a run in threads stopped.
+//! The line that reports why a run stopped.
 ghost use Rattle.std.specs.Prelude.{◌≡◌, ◌+◌, ◌≤◌, [], ◌++◌, decimal, length};
 ghost use Rattle.model_jobs.specs.Texts.{ended};
 ghost use Rattle.mesh_run.specs.Runs.{error_text, fault_text};
@@ -52,7 +52,7 @@ pub(crate) fn line_with(bytes: &[u8]) -> Line
     line
 }
 
-/// A line with a number between these bytes, and its end.
+/// A line with a number between `before` and `behind`, and its end.
 pub(crate) fn number_line(before: &[u8], number: u32, behind: &[u8]) -> Line
     requires { length before.now + length behind.now ≤ 61 }
     ensures { result.items ≡ ended (before.now ++ decimal number ++ behind.now) }

@@ -1,8 +1,8 @@
-//! What the program `meshrun` does, over any devices: its runs, with their exit statuses.
+//! The runs of the program `meshrun` over any devices, with their exit statuses.
 //!
-//! Nothing in this crate opens a file or prints by itself. The program passes in the words of its command line, a
-//! source for the file, and sinks for standard output and standard error. The words go to `mesh_command_line`. The
-//! program exits with the returned status.
+//! Nothing in this crate opens a file or prints by itself. The program passes in a source for the file, sinks for
+//! standard output and standard error, and the arguments that `mesh_command_line` reads from the words of the command
+//! line. The program exits with the returned status.
 #![tactic(auto)]
 
 mod check;

@@ -10,11 +10,11 @@ use mesh_live::{Sizes, live};
 use std::alloc::Global;
 
 /// Answers the lines of the input, one by one, on a fresh heap of these sizes, and returns the exit status. Each answer
-/// is a line of the output, and is written before the next line of the input is taken.
+/// is a line of the output, and is written before the next line of the input is answered.
 ///
 /// The status is 0 if the line `end` was read, or the input to its end, and every answer was written. It is 1 with the
-/// line `read fault`, `write fault` or `out of memory` in `errors`. A line that is not valid in a session is no fault
-/// of the run: it is answered.
+/// line `read fault`, `write fault` or `out of memory` in `errors`. A line that is not valid in a session is answered
+/// with its fault, and the run continues.
 pub fn live_run<I: Source, O: Sink, E: Sink>(
     alloc: Global,
     args: &LiveArgs,

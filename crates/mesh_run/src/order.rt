@@ -1,4 +1,4 @@
-//! The program's order of a history of calls that overlap.
+//! The program's order of the calls of a history that overlap.
 ghost use Rattle.std.specs.Prelude.{◌≡◌, ◌≤◌, false, IfOk, OnOk};
 ghost use Rattle.mesh_run.specs.Orders.{EndsOrder, HasToldOrder};
 ghost use Rattle.mesh_run.specs.Runs.{IsSound};
@@ -13,8 +13,8 @@ use mesh_judge::{Begun, ordered_history};
 use std::alloc::Global;
 
 /// Writes the calls of the history in the input in an order that explains them, as a history of version 1, and returns
-/// the exit status 0. If there is no such order, or the calls are already in order, it judges the history as
-/// `check_run` does, with the same lines and statuses.
+/// the exit status 0. If no such order is found, judges the history as `check_run` does, with the same lines and
+/// statuses. A history whose calls are already in order is judged too.
 pub fn order_run<I: Source, O: Sink, E: Sink>(
     alloc: Global,
     most: u32,
@@ -32,7 +32,7 @@ pub fn order_run<I: Source, O: Sink, E: Sink>(
     }
 }
 
-/// Writes the calls in an order, or the verdict if there is no order, and returns the exit status.
+/// Writes the calls in an order that explains them, or the verdict if no order is found. Returns the exit status.
 fn write_order<I: Source, O: Sink>(
     alloc: Global,
     most: u32,

@@ -1,6 +1,6 @@
 //! What a run prints.
 
-/// What a run prints of its workers' calls and answers.
+/// The form in which a run prints its workers' calls and answers.
 #[derive(Clone, Copy, PartialEq, Eq)]
 pub(crate) enum Printed {
     /// The answers alone.

@@ -6,13 +6,13 @@ use mesh_devices::Sink;
 use mesh_reach::Watch;
 use std::time::{Clock, Duration, Instant};
 
-/// After how many states the clock is read.
+/// The number of reports between two readings of the clock.
 const STATES_BETWEEN: u32 = 256;
 
-/// How many seconds pass between two lines.
+/// The least number of seconds between two lines.
 const SECONDS_BETWEEN: u64 = 1;
 
-/// Writes once a second how many states were found, and how many per second.
+/// A watch that writes at most once a second how many states were found, and how many per second.
 #[derive(Drop)]
 pub struct Progress<'a, C: Clock, S: Sink> {
     clock: &'a C,
@@ -23,7 +23,7 @@ pub struct Progress<'a, C: Clock, S: Sink> {
     unread: u32,
 }
 
-/// When something began, and when it was last reported.
+/// The moment when an exploration began, and the moment of the last report.
 #[derive(Clone, Copy)]
 struct Times {
     begun: Instant,
@@ -31,7 +31,8 @@ struct Times {
 }
 
 impl<'a, C: Clock, S: Sink> Progress<'a, C, S> {
-    /// Starts the clock now. Nothing is written if progress isn't wanted or the clock can't be read.
+    /// Creates a watch, and starts the clock. Nothing is ever written if progress isn't wanted or the clock can't be
+    /// read.
     pub fn new(clock: &'a C, sink: S, is_wanted: bool) -> Progress<'a, C, S> {
         let times = match Instant::now(clock) {
             Ok(now) if is_wanted => Some(Times {
@@ -88,7 +89,7 @@ fn progress_line(states: usize, passed: Duration) -> Line {
     line
 }
 
-/// A number in 32 bits, or their greatest value if it doesn't fit.
+/// A number in 32 bits, or `u32::MAX` if the number doesn't fit.
 fn narrow(number: u128) -> u32 {
     u32::try_from(number).unwrap_or(u32::MAX)
 }

@@ -42,7 +42,8 @@ pub fn replay_run<I: Source, O: Sink, E: Sink>(
 /// Replays the job in the input, writes the recorded history of its journal to the output and its fault to `errors`,
 /// and returns the exit status.
 ///
-/// Status and line are those of `replay_run`. Nothing is written to the output before the plan is over.
+/// The exit status and the line in `errors` are those of `replay_run`. Nothing is written to the output before the plan
+/// is over.
 pub fn replay_history_run<I: Source, O: Sink, E: Sink>(
     alloc: Global,
     devices: &mut Devices<I, O, E>,
@@ -54,7 +55,8 @@ pub fn replay_history_run<I: Source, O: Sink, E: Sink>(
     finished(&mut devices.errors, outcome)
 }
 
-/// Writes help to the output, or any other text of a stop to `errors`, and returns its exit status.
+/// Writes the text of a stop, and returns the stop's exit status. Help is written to the output, and any other text to
+/// `errors`.
 ///
 /// If the text can't be written, the status is the same.
 pub fn stop_run<O: Sink, E: Sink>(stop: &Stop, output: &mut O, errors: &mut E) -> u8

@@ -14,12 +14,14 @@ use mesh_savings_report::{Form, SavingsError, SavingsOptions, Settings, Window, 
 use std::alloc::Global;
 
 /// Follows the recorded history in the input on two heaps, writes what meshing saves to the output, as a table or a
-/// plot, and returns the exit status. If there is nothing to write, it writes the reason to `errors`.
+/// plot, and returns the exit status. Any fault is written to `errors`.
 ///
-/// The status is 0 with the table. If a heap has no virtual pages left for the `new` of call N, it is 1 with the table
-/// of the calls before it and the line `addresses used up at call N`. It is 1 with the line `line L: not a history`,
-/// `read fault`, `write fault` or `out of memory`, and 2 with the line `line L: KIND` if the text has a fault before
-/// anything else. If the line can't be written, the status is the same.
+/// The status is 0 with the whole table or plot. The status is 1 if a heap has no virtual pages left for the `new` of
+/// call N. Then the table or plot has the calls before N, and the line is `addresses used up at call N`.
+///
+/// The status is 1 with the line `line L: not a history`, `read fault`, `write fault` or `out of memory`. It is 2 with
+/// the line `line L: KIND` if the text has a fault before anything else. If the line can't be written, the status is
+/// the same.
 pub fn savings_run<I: Source, O: Sink, E: Sink>(
     alloc: Global,
     args: &SavingsArgs,
@@ -42,7 +44,8 @@ pub fn savings_run<I: Source, O: Sink, E: Sink>(
     }
 }
 
-/// How the history is followed, which of its calls the figures are of, and how they are shown.
+/// Returns the options that the arguments ask for: how the history is followed, which calls are reported, and in which
+/// form.
 fn options_of(args: &SavingsArgs) -> SavingsOptions
     ensures { result ≡ options_of args.now }
 {

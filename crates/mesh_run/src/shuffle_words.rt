@@ -7,13 +7,13 @@ use rand_core::utils::NextWord;
 use rand_xoshiro::Xoshiro256PlusPlus;
 use std::alloc::{AllocError, Global};
 
-/// How many words a round of meshing has.
+/// The number of words of a round of meshing.
 const ROUND_WORDS: usize = 256;
 
-/// The words for this number of rounds, 256 each: the first ones of xoshiro256++ (Blackman and Vigna), seeded by
-/// SplitMix64 from this seed.
+/// Returns 256 words for each of this number of rounds. They are the first outputs of xoshiro256++ (Blackman and
+/// Vigna), seeded by SplitMix64 from this seed.
 ///
-/// They are the words of the Rust crate `rand_xoshiro`. Fails only on an allocation failure.
+/// The Rust crate `rand_xoshiro` returns the same words. An error is an allocation failure.
 pub fn words(alloc: Global, seed: u64, rounds: u32) -> Result<Vec<u64>, AllocError>
     ensures { IfOk result (λ words. words.items ≡ words_of seed rounds) }
 {

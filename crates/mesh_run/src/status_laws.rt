@@ -1,8 +1,8 @@
-//! What the definitions of statuses and of the lines of errors must not say. Each lemma is the contract of a function
-//! that does nothing.
+//! Laws of the exit statuses and of the lines of errors. Each is the contract of a function that does nothing.
 ghost use Rattle.mesh_run.specs.StatusLaws.{FaultsAreSpelt, FaultyFilesAreTold, FaultyTextsAreTold, NoErrorIsDone, NoRunErrorIsDone, RunFaultsAreTold, ThreadFaultsAreTold, WantOfMemoryIsTold};
 
-/// No error has the status of success, and 2 is the status of a faulty file only.
+/// No error has status 0. An error has status 2 if and only if the text of the file has a fault or, in a run in
+/// threads, its history is too short. A fault of the text is printed as the number of its line and its name.
 pub fn statuses_tell_errors_apart()
     ensures done { NoErrorIsDone }
     ensures run_done { NoRunErrorIsDone }
@@ -11,8 +11,8 @@ pub fn statuses_tell_errors_apart()
     ensures spelt { FaultsAreSpelt }
 {}
 
-/// The line of a `RunError`: `Memory` is `out of memory` and `Thread` is `thread fault`. `History` and every fault of
-/// `finish`, an allocation failure inside `finish` included, are `run fault`.
+/// The line of a `RunError` is `out of memory` for `Memory`, and `thread fault` for `Thread`. It is `run fault` for
+/// `History` and for every fault of `finish`, including an allocation failure inside `finish`.
 pub fn stops_are_told_as_they_are()
     ensures memory { WantOfMemoryIsTold }
     ensures thread { ThreadFaultsAreTold }

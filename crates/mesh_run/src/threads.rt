@@ -32,20 +32,20 @@ use std::thread::Threads;
 /// answers of each worker and the number of all entries to the output, or a fault to `errors`, and returns the exit
 /// status. The file's plan isn't used.
 ///
-/// The status is 0 if everything was written; nothing is written before all threads have ended. It is 2, and nothing is
-/// run, in two cases:
+/// The status is 0 if everything was written. Nothing is written to the output before all threads have ended. The
+/// status is 2, and nothing is run, in two cases:
 ///
 /// - `line N: KIND` if the job's text has a fault;
 /// - `history too short` if the file's history has fewer entries than its scripts have commands.
 ///
-/// It is 1 with one of these lines:
+/// The status is 1 with one of these lines:
 ///
 /// - `read fault`, `write fault` or `out of memory`;
 /// - `thread fault` if a thread couldn't be started or a searcher's answer isn't the one that was asked for;
-/// - `run fault` if the journal was full or `finish` has a fault, out of memory inside it included.
+/// - `run fault` if the journal was full or `finish` has a fault, including an allocation failure inside `finish`.
 ///
-/// Of several faults the first in this order is reported: reading, the text, a history too short, the run, writing. If
-/// the line can't be written, the status is the same.
+/// If there are several faults, the first in this order is reported: reading, the text, a history too short, the run,
+/// writing. If the line can't be written, the status is the same.
 pub fn threads_run<R: Threads + Wait + Sync, I: Source, O: Sink, E: Sink>(
     rt: &R,
     alloc: Global,
@@ -128,7 +128,8 @@ fn run_file<R: Threads + Wait + Sync, I: Source, O: Sink>(
     write_text(output, text.as_slice())
 }
 
-/// The text of the history of a run of a job's scripts.
+/// Runs a job's scripts, and returns the text of their history. The error is TooShort, and nothing is run, if the job's
+/// history has no room for all commands. Other errors are those of the run.
 fn run_job<R: Threads + Wait + Sync>(
     rt: &R,
     alloc: Global,
@@ -149,7 +150,8 @@ fn run_job<R: Threads + Wait + Sync>(
     Ok(text)
 }
 
-/// The text of a history of this number of workers.
+/// Returns the text of a history: the answers of each of this number of workers, or the recorded history. An error is
+/// an allocation failure.
 fn text_of(
     alloc: Global,
     printed: Printed,
@@ -183,7 +185,7 @@ fn run_scripts<R: Threads + Wait + Sync>(
 }
 
 /// Runs a job's scripts on a fresh book, while meshers follow the plan of the arguments. The book is opened last, so
-/// that no other step can fail while it is open.
+/// that no other preparation can fail while the book is open.
 fn run_book<R: Threads + Wait + Sync>(
     rt: &R,
     alloc: Global,
@@ -266,7 +268,7 @@ fn has_room(scripts: &Scripts, history: u32) -> bool
     true
 }
 
-/// Writes a text. If the output fails, a beginning of the text was written.
+/// Writes a text. The error is Write if the output failed, and then only a beginning of the text was written.
 fn write_text<O: Sink>(output: &mut O, text: &[u8]) -> Result<(), ThreadsError>
     requires { O.has_failed output.old ≡ false }
     ensures ok { OnOk result (Appends (O.written output.old) (O.written output.new) text.now) }

@@ -1,4 +1,4 @@
-//! Why a run of scripts in threads stops.
+//! The reasons why a run of scripts in threads stops.
 ghost use Rattle.std.specs.Prelude.{◌≡◌};
 ghost use Rattle.mesh_run.specs.Threads.{stop_of};
 ghost use Rattle.mesh_run.specs.declared.threads_error.ThreadsError.{ThreadsError};
@@ -9,7 +9,7 @@ use mesh_shared::RunError;
 use std::alloc::AllocError;
 use thiserror::Error;
 
-/// Why a run of scripts in threads stopped before its whole text was written.
+/// The reason why a run of scripts in threads stopped before its whole text was written.
 #[derive(Clone, Copy, Debug, PartialEq, Eq, Error)]
 pub enum ThreadsError {
     /// A fault that stops a replay too: the input failed, its text is no job file, an allocation failed, or the output

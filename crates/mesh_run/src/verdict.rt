@@ -1,4 +1,4 @@
-//! The program's verdict over the outcomes of an exploration.
+//! The program's verdict on the outcomes of an exploration.
 ghost use Rattle.std.specs.Prelude.{◌≡◌, ◌≤◌, ◌++◌, ◌∷◌, [], Some, false, true, IfErr, IfOk, OnOk, length, map};
 ghost use Rattle.model_jobs.specs.Texts.{ended};
 ghost use Rattle.mesh_devices.specs.declared.faults.ReplayError.{ReplayError};
@@ -16,7 +16,8 @@ use mesh_reach::Watch;
 use mesh_verdict::{Pattern, VerdictOptions, verdict};
 use std::alloc::{AllocError, Global};
 
-/// Reads the expected outcomes. If it can't, writes the reason to `errors` and returns the exit status.
+/// Reads the text of the expected outcomes. If reading fails, writes the reason to `errors`. The error is then the exit
+/// status.
 pub fn expected_run<I: Source, E: Sink>(
     alloc: Global,
     input: &mut I,
@@ -96,7 +97,8 @@ fn write_verdict<I: Source, O: Sink, W: Watch>(
     Ok(well)
 }
 
-/// Parses these texts as patterns.
+/// Parses these texts as patterns. The error is NoPattern for the first text that is no pattern, and Memory if an
+/// allocation failed.
 fn patterns(alloc: Global, texts: &[&str]) -> Result<Vec<Pattern>, VerdictError>
     requires { length texts.now ≤ 10 }
     ensures patterns { IfOk result (λ patterns. AreSpelt (map (λ text. text.now) texts.now) patterns.items) }

@@ -1,12 +1,12 @@
-//! Why a verdict isn't given.
+//! The reasons why a verdict isn't given.
 use mesh_explore_text::ExploreError;
 use std::alloc::AllocError;
 use thiserror::Error;
 
-/// Why a verdict isn't given.
+/// The reason why a verdict isn't given.
 #[derive(Clone, Copy, Debug, PartialEq, Eq, Error)]
 pub enum VerdictError {
-    /// The text of this `--never`, counted from 1, is no pattern.
+    /// The text of the `--never` with this number, counted from 1, is no pattern.
     #[error("--never {0}: no pattern 'worker W: ANSWER | ..'")]
     NoPattern(u32),
     /// The exploration stopped.

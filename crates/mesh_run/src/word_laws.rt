@@ -1,7 +1,8 @@
-//! What the definition of a seed's words must not say. A lemma: the contract of a function that does nothing.
+//! A law of the words of a seed: the contract of a function that does nothing.
 ghost use Rattle.mesh_run.specs.WordLaws.{RoundsGoOn, RoundsHaveTheirWords, SeedsHaveTheirWords};
 
-/// Each round has 256 words, more rounds continue where fewer end, and the words are the generator's.
+/// Each round has 256 words. The words for more rounds begin with the words for fewer rounds. The first two words of
+/// the seeds 0 and 1 are those that the programs of the generator's authors print.
 pub fn words_are_the_seeds()
     ensures many { RoundsHaveTheirWords }
     ensures more { RoundsGoOn }

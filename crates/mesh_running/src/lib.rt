@@ -1,7 +1,7 @@
 //! A running mesh: its two groups, and its progress.
 //!
-//! The heap keeps a list of running meshes, and so does the table as a program. A contract sees a running mesh as the
-//! definitions' running mesh.
+//! The heap and `mesh_table::Table` each keep a list of running meshes. A contract sees a running mesh as a `Mesh` of
+//! the definitions.
 #![tactic(auto)]
 
 mod progress;

@@ -3,8 +3,8 @@
 /// The progress of a mesh.
 #[derive(Clone, Copy, PartialEq, Eq)]
 pub enum Progress {
-    /// `Made(d)`: `d` of its steps are done.
+    /// `Made(d)`: the mesh has made `d` steps.
     Made(u32),
-    /// `Unwinding(q, u)`: it was cancelled. Of the `q` pages that it had protected, `u` are writable again.
+    /// `Unwinding(q, u)`: the mesh was cancelled. Of the `q` pages that the mesh had protected, `u` are writable again.
     Unwinding(u32, u32),
 }

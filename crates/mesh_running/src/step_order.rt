@@ -1,4 +1,4 @@
-//! `StepOrder`, the steps of a mesh.
+//! `StepOrder`, the number and order of the steps of a mesh.
 ghost use Rattle.std.specs.Prelude.{◌≡◌, ◌+◌, ◌-◌, ◌<◌, ◌≤◌, Some, map, min, slice_get, sum, take};
 ghost use Rattle.model_heap.specs.Mesh.{kind_after, step_count};
 ghost use Rattle.model_heap.specs.StepEffects as effects;
@@ -10,7 +10,7 @@ ghost use Rattle.mesh_running.specs.StepOrders.{IsStepOrder, order_of, order_ste
 use mesh_class::Class;
 use model_words::StepKind;
 
-/// The most members that a group has.
+/// The maximum number of members of a group.
 pub const MAX_MEMBERS: usize = 8;
 
 /// The kinds of step, in the order in which a mesh makes them.
@@ -22,7 +22,7 @@ pub const KINDS: [StepKind; 5] = [
     StepKind::Release,
 ];
 
-/// The index of a kind of step in `KINDS`.
+/// Returns the index of a kind of step in `KINDS`.
 pub fn place_of(kind: StepKind) -> usize
     ensures place { slice_get KINDS result ≡ Some kind }
     ensures before { (order : StepOrder) → steps_before order kind ≡ sum (map (steps_of order) (take result KINDS)) }
@@ -36,7 +36,7 @@ pub fn place_of(kind: StepKind) -> usize
     }
 }
 
-/// The name of a kind of step, as printed in answer lines, explorations and pictures.
+/// Returns the name of a kind of step, as answer lines, explorations and pictures print it.
 pub fn kind_name(kind: StepKind) -> &'static str
     ensures { result.now ≡ kind_text kind }
 {
@@ -49,19 +49,20 @@ pub fn kind_name(kind: StepKind) -> &'static str
     }
 }
 
-/// How many steps of each kind a mesh makes.
+/// The numbers that determine how many steps of each kind a mesh makes.
 #[derive(Clone, Copy, PartialEq, Eq)]
 pub struct StepOrder {
-    /// How many virtual pages the source has: each is protected, remapped and unprotected.
+    /// The number of virtual pages of the source. A mesh makes a protect, a remap and an unprotect step for each of
+    /// these pages.
     pub virtual_pages: u32,
-    /// How many slots the class has: each is copied.
+    /// The number of slots of the class. A mesh makes a copy step for each slot.
     pub slots: u32,
-    /// How many physical pages the source has: each is released.
+    /// The number of physical pages of the source. A mesh makes a release step for each of these pages.
     pub pages: u32,
 }
 
 impl StepOrder {
-    /// The step order of a mesh whose source is a group of this class with `members` members.
+    /// Returns the step order of a mesh whose source is a group of this class with `members` members.
     pub fn new(class: Class, members: usize) -> StepOrder
         requires { members ≤ 8 }
         ensures value { result ≡ order_with class members }
@@ -74,7 +75,7 @@ impl StepOrder {
         }
     }
 
-    /// How many steps there are.
+    /// Returns the number of all steps of a mesh.
     pub fn steps(self) -> u32
         requires { IsStepOrder self }
         ensures value { result ≡ order_steps self }
@@ -83,7 +84,7 @@ impl StepOrder {
         3 * self.virtual_pages + self.slots + self.pages
     }
 
-    /// How many steps are of a kind.
+    /// Returns the number of steps of one kind.
     pub fn steps_of(self, kind: StepKind) -> u32
         ensures { result ≡ steps_of self kind }
     {
@@ -94,8 +95,8 @@ impl StepOrder {
         }
     }
 
-    /// The kind of the step after the first `made` steps, and its number among the steps of that kind. Past the last
-    /// step the kind is release.
+    /// Returns the kind of the step that follows the first `made` steps, and that step's number, from 0, among the
+    /// steps of its kind. If all steps are made, the kind is `Release`.
     pub fn step_after(self, made: u32) -> (StepKind, u32)
         ensures number { made ≡ steps_before self result.0 + result.1 }
         ensures within { made < order_steps self → result.1 < steps_of self result.0 }
@@ -120,14 +121,14 @@ impl StepOrder {
         (StepKind::Release, made - self.virtual_pages)
     }
 
-    /// How many slots are copied after `made` steps.
+    /// Returns the number of slots that the first `made` steps copy.
     pub fn copied_after(self, made: u32) -> u32
         ensures { result ≡ min (made - steps_before self Copy) self.slots }
     {
         made.saturating_sub(self.virtual_pages).min(self.slots)
     }
 
-    /// How many pages are released after `made` steps.
+    /// Returns the number of physical pages that the first `made` steps release, if a mesh has that many steps.
     pub fn released_after(self, made: u32) -> u32
         requires { IsStepOrder self }
         ensures { result ≡ made - steps_before self Release }

@@ -8,7 +8,7 @@ use mesh_history::{RecordedEntry, RecordedReply, SpeltCommand};
 /// A call of a recorded program. A cell is any 32-bit number.
 #[derive(Clone, Copy, Debug, PartialEq, Eq)]
 pub enum Call {
-    /// `New(cell, len)`: an object of `len` bytes was made, and its reference stored in `cell`.
+    /// `New(cell, len)`: an object of `len` bytes was made, and a reference to it was stored in `cell`.
     New(u32, u64),
     /// `Free(cell)`: the object that `cell` holds was freed.
     Free(u32),
@@ -16,8 +16,8 @@ pub enum Call {
     Alias(u32, u32),
 }
 
-/// The call of an entry: of a `new` that was answered with an object, or of a `free` or an `alias` that was answered
-/// with `done`. `None` for all other entries.
+/// Returns the call of an entry. The entry must be a `new` that was answered with an object, or a `free` or an `alias`
+/// that was answered with `done`. Returns `None` for all other entries.
 pub fn call_of(entry: &RecordedEntry) -> Option<Call>
     ensures { result ≡ call_of (plain_entry entry.now) }
 {

@@ -4,47 +4,48 @@ ghost use Rattle.mesh_savings.specs.Counts.{IsFew, alias_counted, large_free_cou
 
 use mesh_class::Class;
 
-/// The bytes of a page.
+/// The size of a page in bytes.
 const PAGE: u128 = 4096;
 
-/// The counts of the calls so far. Objects of up to 2,048 bytes are small, all others are large.
+/// The counts of the calls so far. An object of up to 2,048 bytes is small, and any other object is large.
 #[derive(Clone, Copy, Debug)]
 pub struct Counts {
-    /// Calls that were made.
+    /// The number of calls made.
     pub calls: u32,
-    /// Objects that were made.
+    /// The number of objects made.
     pub made: u32,
-    /// Small objects that were made.
+    /// The number of small objects made.
     pub small: u32,
-    /// The most small objects that were live at once.
+    /// The maximal number of small objects that were live at once.
     pub most_small: u32,
-    /// The pages of the live large objects, each rounded up to whole pages. Their number may need more than 64 bits.
+    /// The number of large objects made.
     pub large: u32,
-    /// The pages of the live large objects, each in whole pages. Their number may need more than 64 bits.
+    /// The number of pages of all live large objects, if the length of each object is rounded up to whole pages. The
+    /// number can need more than 64 bits.
     pub large_pages: u128,
-    /// The most pages of live large objects at once.
+    /// The maximum of `large_pages` so far.
     pub most_large_pages: u128,
-    /// Frees of small objects.
+    /// The number of small objects freed.
     pub freed: u32,
-    /// Mesh rounds that were made.
+    /// The number of rounds made.
     pub rounds: u32,
-    /// For each class, the least first, whether it has ever had an object.
+    /// Whether each class has ever had an object, from the smallest class to the largest.
     pub used: [bool; 10],
 }
 
 /// The counts of all meshes.
 #[derive(Clone, Copy, Debug, PartialEq, Eq)]
 pub struct MeshCounts {
-    /// Pairs that were meshed.
+    /// The number of pairs that were meshed.
     pub meshes: u64,
-    /// Pairs that were found and refused.
+    /// The number of pairs that a search found, and whose mesh was refused.
     pub refused: u64,
-    /// Bytes of the objects that the meshes moved.
+    /// The number of bytes of the objects that meshes moved.
     pub moved: u64,
 }
 
 impl MeshCounts {
-    /// The counts before the first mesh.
+    /// Returns the counts before the first mesh.
     pub(crate) fn none() -> MeshCounts
         ensures { result ≡ no_mesh }
     {
@@ -56,7 +57,7 @@ impl MeshCounts {
     }
 }
 
-/// The number of pages of `len` bytes, rounded up.
+/// Returns the number of pages that `len` bytes need.
 fn whole_pages(len: u64) -> u128
     ensures { result ≡ whole_pages len }
 {
@@ -64,7 +65,7 @@ fn whole_pages(len: u64) -> u128
 }
 
 impl Counts {
-    /// The counts before the first call.
+    /// Returns the counts before the first call.
     pub(crate) fn none() -> Counts
         ensures value { result ≡ no_count }
         ensures few { IsFew result }
@@ -83,7 +84,8 @@ impl Counts {
         }
     }
 
-    /// The counts after a small object of a class was made. With it, `live` small objects are live.
+    /// Returns the counts after a small object of a class was made. `live` is the number of live small objects with
+    /// this object.
     pub(crate) fn small_new(&self, class: Class, live: u32) -> Counts
         requires few { IsFew self.now }
         requires calls { self.now.calls < 2 ^ 32 - 1 }
@@ -102,7 +104,7 @@ impl Counts {
         }
     }
 
-    /// The counts after a large object was made.
+    /// Returns the counts after a large object of `len` bytes was made.
     pub(crate) fn large_new(&self, len: u64) -> Counts
         requires few { IsFew self.now }
         requires calls { self.now.calls < 2 ^ 32 - 1 }
@@ -120,7 +122,7 @@ impl Counts {
         }
     }
 
-    /// The counts after a small object was freed. If `is_due`, a round follows.
+    /// Returns the counts after a small object was freed. If `is_due`, also counts the round that follows.
     pub(crate) fn small_free(&self, is_due: bool) -> Counts
         requires few { IsFew self.now }
         requires calls { self.now.calls < 2 ^ 32 - 1 }
@@ -135,7 +137,7 @@ impl Counts {
         }
     }
 
-    /// The counts after a large object was freed.
+    /// Returns the counts after a large object of `len` bytes was freed.
     pub(crate) fn large_free(&self, len: u64) -> Counts
         requires few { IsFew self.now }
         requires calls { self.now.calls < 2 ^ 32 - 1 }
@@ -149,7 +151,7 @@ impl Counts {
         }
     }
 
-    /// The counts after a reference was stored in another cell.
+    /// Returns the counts after a reference was stored in another cell.
     pub(crate) fn alias(&self) -> Counts
         requires few { IsFew self.now }
         requires calls { self.now.calls < 2 ^ 32 - 1 }

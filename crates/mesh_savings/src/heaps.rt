@@ -16,7 +16,7 @@ use crate::words::seeded;
 use mesh_placement::{NewFault, Placement, Slot, Span};
 use std::alloc::{AllocError, Global};
 
-/// Both heaps: one that doesn't mesh, and one that does.
+/// Two heaps: one that doesn't mesh, and one that does.
 #[derive(Drop)]
 pub(crate) struct TwoHeaps {
     pub without: Placement,
@@ -34,7 +34,7 @@ fn free_at(placement: &mut Placement, place: (Span, Slot))
     }
 }
 
-/// Makes an object in a heap, in the slot that the heap chooses. An error is an allocation failure.
+/// Makes an object in a heap, in the slot that the heap chooses. Returns an error if an allocation fails.
 fn place(placement: &mut Placement, len: u32, word: u64) -> Result<(Span, Slot), AllocError>
     requires room { is_ok (place_new (table_of placement.old) len word placement.old.next_serial) ≡ true }
     requires serial { placement.old.next_serial < 2 ^ 32 - 1 }
@@ -48,7 +48,7 @@ fn place(placement: &mut Placement, len: u32, word: u64) -> Result<(Span, Slot),
 }
 
 impl TwoHeaps {
-    /// Returns both heaps without objects. An error is an allocation failure.
+    /// Returns both heaps without objects. Returns an error if an allocation fails.
     pub(crate) fn open(alloc: Global, shuffle_seed: u64) -> Result<TwoHeaps, AllocError>
         ensures heaps { IfOk result (λ heaps. heaps_of heaps ≡ empty_heaps shuffle_seed) }
         ensures without_serial { IfOk result (λ heaps. heaps.without.next_serial ≡ 0) }
@@ -64,7 +64,7 @@ impl TwoHeaps {
         })
     }
 
-    /// Whether all serial numbers of a heap are used up.
+    /// Whether one of the heaps has used up all serial numbers.
     pub(crate) fn is_full(&self) -> bool
         ensures full { result ≡ true → HaveNoSerial self.now }
         ensures left { result ≡ false → HaveSerial self.now }
@@ -81,7 +81,7 @@ impl TwoHeaps {
         self.without.has_room(len) && self.mesher.placement.has_room(len)
     }
 
-    /// Makes an object of this length in both heaps, with the same word. An error is an allocation failure.
+    /// Makes an object of this length in both heaps, with the same word. Returns an error if an allocation fails.
     pub(crate) fn new(&mut self, len: u32, word: u64) -> Result<Places, AllocError>
         requires serials { HaveSerial self.old }
         requires without { is_ok (place_new (table_of self.old.without) len word self.old.without.next_serial) ≡ true }
@@ -104,10 +104,10 @@ impl TwoHeaps {
         free_at(&mut self.mesher.placement, places.with);
     }
 
-    /// Makes a round: removes the empty groups of both heaps, and searches and meshes each class of the heap that
-    /// meshes.
+    /// Makes a round. It removes the empty groups of both heaps, and then searches and meshes each class of the heap
+    /// that meshes.
     ///
-    /// An error is an allocation failure.
+    /// Returns an error if an allocation fails.
     fn round(&mut self, alloc: Global, probe: u32) -> Result<(), AllocError>
         requires { Fits self.old.mesher.counts 327680 }
         ensures value { OnOk result (heaps_of self.new ≡ after_round probe (heaps_of self.old)) }
@@ -119,7 +119,7 @@ impl TwoHeaps {
         self.mesher.mesh_classes(alloc, probe)
     }
 
-    /// Frees an object in both heaps, and makes a round if it is due. An error is an allocation failure.
+    /// Frees an object in both heaps, and makes a round if `is_due`. Returns an error if an allocation fails.
     pub(crate) fn free_and_round(
         &mut self,
         alloc: Global,

@@ -1,7 +1,8 @@
-//! Lemmas about both heaps after any calls. Each is the contract of a function that does nothing.
+//! Lemmas about both heaps after any calls. Each lemma is the contract of a function that does nothing.
 ghost use Rattle.mesh_savings.specs.Alike.{ClassesAreAlike, HeapsAreAlike, HeapsAreSound, RunsGoOn};
 
-/// After any calls, both heaps have the same live objects: the same serials and lengths, in the same classes.
+/// After any calls, both heaps have the same live objects. Each object has the same serial, length and class in both
+/// heaps.
 pub fn heaps_are_alike()
     ensures objects { HeapsAreAlike }
     ensures classes { ClassesAreAlike }
@@ -12,7 +13,8 @@ pub fn heaps_are_sound()
     ensures { HeapsAreSound }
 {}
 
-/// The state after a list of calls is the state after its last call, made in the state after the others.
+/// Let a list of calls be split into two parts. A run of the first part, continued with the second part, then has the
+/// outcome of a run of the whole list.
 pub fn runs_go_on()
     ensures { RunsGoOn }
 {}

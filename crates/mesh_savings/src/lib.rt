@@ -1,4 +1,4 @@
-//! Replays the allocations of a recorded program on two heaps side by side, one that meshes and one that doesn't.
+//! Replays the allocations of a recorded program on two heaps side by side: one that meshes and one that doesn't.
 #![tactic(auto)]
 
 mod calls;

@@ -12,7 +12,7 @@ use mesh_search::{Pair, search_one};
 use rand_xoshiro::Xoshiro256PlusPlus;
 use std::alloc::{AllocError, Global};
 
-/// The heap that meshes, the counts of its meshes, and the generator of the words of its shuffles.
+/// The heap that meshes, the counts of its meshes, and the generator of the words for shuffles.
 #[derive(Drop)]
 pub(crate) struct Mesher {
     pub placement: Placement,
@@ -21,7 +21,7 @@ pub(crate) struct Mesher {
 }
 
 impl Mesher {
-    /// Meshes a pair, or counts its refusal.
+    /// Meshes a pair of groups. If the mesh is refused, counts the refusal instead.
     fn mesh_pair(&mut self, pair: Pair)
         requires { Fits self.old.counts 1 }
         ensures value { meshing_of self.new ≡ pair_meshed (meshing_of self.old) pair }
@@ -50,7 +50,7 @@ impl Mesher {
         }
     }
 
-    /// Searches a class and meshes the pairs found.
+    /// Searches a class, and meshes the pairs that the search finds. Returns an error if an allocation fails.
     fn mesh_class(&mut self, alloc: Global, probe: u32, class: Class) -> Result<(), AllocError>
         requires { Fits self.old.counts 32768 }
         ensures value { OnOk result (meshing_of self.new ≡ class_meshed probe (meshing_of self.old) class) }
@@ -64,7 +64,8 @@ impl Mesher {
         Ok(())
     }
 
-    /// Searches each class, the least first, and meshes the pairs found. An error is an allocation failure.
+    /// Searches each class, from the smallest to the largest, and meshes the pairs that the searches find. Returns an
+    /// error if an allocation fails.
     pub(crate) fn mesh_classes(&mut self, alloc: Global, probe: u32) -> Result<(), AllocError>
         requires { Fits self.old.counts 327680 }
         ensures value { OnOk result (meshing_of self.new ≡ classes_meshed probe (meshing_of self.old) class_sizes) }

@@ -7,7 +7,7 @@ use mesh_placement::{Slot, Span};
 use std::alloc::{AllocError, Global};
 use std::collections::HashMap;
 
-/// Where an object is in both heaps.
+/// The places of an object in the two heaps.
 #[derive(Clone, Copy)]
 pub(crate) struct Places {
     pub without: (Span, Slot),
@@ -19,11 +19,12 @@ pub(crate) struct Places {
 pub(crate) enum Object {
     /// An object of up to 2,048 bytes.
     Small(Places),
-    /// A larger object of this length. It is in neither heap.
+    /// A larger object of this length. Neither heap has the object.
     Large(u64),
 }
 
-/// The number of the last object that each cell was given, and the live objects by number.
+/// The live objects by number, and the number of the object to which each cell refers. A cell can refer to an object
+/// that is no longer live.
 #[derive(Drop)]
 pub(crate) struct Objects {
     pub cells: HashMap<u32, u32>,
@@ -31,7 +32,7 @@ pub(crate) struct Objects {
 }
 
 impl Objects {
-    /// Returns no objects, with empty cells.
+    /// Returns a value without objects, in which all cells are empty.
     pub(crate) fn new(alloc: Global) -> Objects
         ensures cells { (cell : ℕ) → cell_of result cell ≡ None }
         ensures live { (number : ℕ) → entry_of result number ≡ None }
@@ -42,7 +43,7 @@ impl Objects {
         }
     }
 
-    /// The number of the live object that a cell holds.
+    /// Returns the number of the live object that a cell holds, or `None` if the cell holds no live object.
     fn number_in(&self, cell: u32) -> Option<u32>
         ensures { result ≡ number_in self.now cell }
     {
@@ -54,7 +55,7 @@ impl Objects {
         }
     }
 
-    /// Adds a live object, and stores its number in the cell. An error is an allocation failure.
+    /// Adds a live object, and stores its number in the cell. Returns an error if an allocation fails.
     pub(crate) fn add(&mut self, cell: u32, number: u32, object: Object) -> Result<(), AllocError>
         ensures cells { OnOk result ((c : ℕ) → cell_of self.new c ≡ with_at cell (Some number) (cell_of self.old) c) }
         ensures live { OnOk result
@@ -65,8 +66,8 @@ impl Objects {
         Ok(())
     }
 
-    /// Copies the live object's number from the cell `from` to the cell `to`. Returns whether `from` holds a live
-    /// object. An error is an allocation failure.
+    /// Copies the number of the live object in the cell `from` to the cell `to`. Returns whether `from` holds a live
+    /// object. Returns an error if an allocation fails.
     pub(crate) fn alias(&mut self, to: u32, from: u32) -> Result<bool, AllocError>
         ensures aliased { IfOk result (λ done. IsAliased self.old self.new to done (number_in self.old from)) }
     {
@@ -77,8 +78,8 @@ impl Objects {
         Ok(true)
     }
 
-    /// Removes the live object that a cell holds, and the cell's reference. `None` if the cell holds no live object;
-    /// then nothing changes.
+    /// Removes the live object that a cell holds, empties the cell, and returns the object with its number. Returns
+    /// `None`, and changes nothing, if the cell holds no live object.
     pub(crate) fn take_out(&mut self, cell: u32) -> Option<(u32, Object)>
         ensures some { IfSome result (λ r. IsTakenOut self.old self.new cell r.0 r.1) }
         ensures none { IfNone result ((number_in self.old cell ≡ None) × (self.new ≡ self.old)) }

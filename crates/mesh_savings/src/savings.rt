@@ -19,7 +19,7 @@ use rand_xoshiro::Xoshiro256PlusPlus;
 use std::alloc::{AllocError, Global};
 use std::marker::Model;
 
-/// A replay of a program's allocations on two heaps, one that meshes and one that doesn't.
+/// A replay of a program's allocations on two heaps: one that meshes and one that doesn't.
 pub struct Savings {
     alloc: Global,
     settings: Settings,
@@ -45,7 +45,7 @@ impl Drop for Savings {
 }
 
 impl Savings {
-    /// Returns a replay with two empty heaps. An error is an allocation failure.
+    /// Returns a replay with two empty heaps. Returns an error if an allocation fails.
     pub fn new(alloc: Global, settings: Settings) -> Result<Savings, AllocError>
         ensures follows { IfOk result (λ savings. Follows savings (start settings)) }
         ensures settings { IfOk result (λ savings. savings.settings ≡ settings) }
@@ -62,7 +62,8 @@ impl Savings {
         })
     }
 
-    /// Whether all numbers of calls are used up, after 2^32 - 1 calls. `take` must not be called then.
+    /// Whether the replay has made 2^32 - 1 calls, so that all numbers of calls are used up. `take` must not be called
+    /// then.
     pub fn is_full(&self) -> bool
         ensures left { result ≡ false → HasNumbers self.now }
         ensures full { (f : Followed) → Follows self.now f → (IsTrue result ↔ (f.counts.calls ≡ 2 ^ 32 - 1)) }
@@ -72,9 +73,10 @@ impl Savings {
 
     /// Makes the next call of the program in both heaps.
     ///
-    /// A call that can't be made changes nothing. The result is then `NoObject` for a `free` or an `alias` of a cell
-    /// that holds no live object, and `NoAddresses` for a `new` for which a heap has too few virtual pages left. An
-    /// error is an allocation failure: the state of the heaps is unspecified then.
+    /// A call that can't be made changes nothing. The result is `NoObject` for a `free` or an `alias` if the cell holds
+    /// no live object. It is `NoAddresses` for a `new` of up to 2,048 bytes if a heap has too few virtual pages left.
+    ///
+    /// Returns an error if an allocation fails. After an error, the state of the heaps is unspecified.
     pub fn take(&mut self, call: &Call) -> Result<Taken, AllocError>
         requires { HasNumbers self.old }
         ensures taken { (f : Followed) → Follows self.old f
@@ -89,14 +91,14 @@ impl Savings {
         }
     }
 
-    /// The settings of the replay.
+    /// Returns the settings of the replay.
     pub fn settings(&self) -> Settings
         ensures { result ≡ self.now.settings }
     {
         self.settings
     }
 
-    /// The counts of the calls so far.
+    /// Returns the counts of the calls so far.
     pub fn counts(&self) -> Counts
         ensures counts { result ≡ self.now.counts }
         ensures follows { (f : Followed) → Follows self.now f → result ≡ f.counts }
@@ -104,7 +106,7 @@ impl Savings {
         self.counts
     }
 
-    /// The counts of all meshes.
+    /// Returns the counts of all meshes so far.
     pub fn mesh_counts(&self) -> MeshCounts
         ensures { (f : Followed) → Follows self.now f → result ≡ f.heaps.meshing.counts }
     {
@@ -125,7 +127,8 @@ impl Savings {
         &self.heaps.mesher.placement
     }
 
-    /// Stores in the cell `to` the reference to the live object that `from` holds.
+    /// Stores in the cell `to` the reference to the live object that `from` holds. Returns `NoObject` if `from` holds
+    /// no live object. Returns an error if an allocation fails.
     fn alias(&mut self, to: u32, from: u32) -> Result<Taken, AllocError>
         requires { HasNumbers self.old }
         ensures taken { (f : Followed) → Follows self.old f
@@ -140,7 +143,8 @@ impl Savings {
         Ok(Taken::Made)
     }
 
-    /// Frees the live object that a cell holds.
+    /// Frees the live object that a cell holds, and makes a round if it is due. Returns `NoObject` if the cell holds no
+    /// live object. Returns an error if an allocation fails.
     fn free(&mut self, cell: u32) -> Result<Taken, AllocError>
         requires { HasNumbers self.old }
         ensures taken { (f : Followed) → Follows self.old f
@@ -163,7 +167,7 @@ impl Savings {
         Ok(Taken::Made)
     }
 
-    /// Counts an object above 2,048 bytes. It is in neither heap.
+    /// Counts an object above 2,048 bytes, which neither heap gets. Returns an error if an allocation fails.
     fn new_large(&mut self, cell: u32, len: u64) -> Result<Taken, AllocError>
         requires { HasNumbers self.old }
         ensures taken { (f : Followed) → Follows self.old f
@@ -177,7 +181,8 @@ impl Savings {
         Ok(Taken::Made)
     }
 
-    /// Makes an object of up to 2,048 bytes in both heaps.
+    /// Makes an object of up to 2,048 bytes in both heaps. Returns `NoAddresses` if a heap has no room for the object.
+    /// Returns an error if an allocation fails.
     fn new_small(&mut self, cell: u32, len: u32, class: Class) -> Result<Taken, AllocError>
         requires numbers { HasNumbers self.old }
         requires some { 1 ≤ len }
@@ -199,7 +204,7 @@ impl Savings {
         Ok(Taken::Made)
     }
 
-    /// Makes an object.
+    /// Makes an object of `len` bytes, in both heaps if it has up to 2,048 bytes. The results are those of `take`.
     fn new_object(&mut self, cell: u32, len: u64) -> Result<Taken, AllocError>
         requires numbers { HasNumbers self.old }
         requires some { 1 ≤ len }
@@ -215,7 +220,7 @@ impl Savings {
     }
 }
 
-/// The class of an object of `len` bytes, at least 1. `None` above 2,048 bytes.
+/// Returns the class of an object of `len` bytes, at least 1. Returns `None` if `len` is above 2,048.
 fn class_within(len: u64) -> Option<Class>
     requires { 1 ≤ len }
     ensures class { result ≡ class_for len }

@@ -5,8 +5,8 @@
 pub enum Taken {
     /// The call was made.
     Made,
-    /// The call can't be made: the cell of a `free` or an `alias` holds no live object.
+    /// The call can't be made, because the cell of a `free` or an `alias` holds no live object.
     NoObject,
-    /// The call can't be made: a heap has too few virtual pages left for the object of a `new`.
+    /// The call can't be made, because a heap has too few virtual pages left for the object of a `new`.
     NoAddresses,
 }

@@ -1,4 +1,4 @@
-//! The words of `new` and of the shuffles.
+//! The words for `new` and for shuffles.
 ghost use Rattle.std.specs.Prelude.{◌≡◌, IfOk, OnOk};
 ghost use Rattle.rand_core.specs.Steps.{first_words};
 ghost use Rattle.rand_xoshiro.specs.Xoshiro256.{plus_plus};
@@ -17,7 +17,7 @@ pub(crate) fn seeded(seed: u64) -> Xoshiro256PlusPlus
     Xoshiro256PlusPlus::seed_from_u64(seed)
 }
 
-/// The next words of a generator. An error is an allocation failure.
+/// Returns the next `count` words of a generator. Returns an error if an allocation fails.
 pub(crate) fn draw(
     alloc: Global,
     generator: &mut Xoshiro256PlusPlus,
@@ -33,7 +33,7 @@ pub(crate) fn draw(
     Ok(words)
 }
 
-/// The word of the next object.
+/// Returns the word for the next object: the next word of the generator, or 0 with `FirstFit`.
 pub(crate) fn draw_new(words: Words, generator: &mut Xoshiro256PlusPlus) -> u64
     ensures word { result ≡ new_word words generator.old }
     ensures after { generator.new ≡ after_new_word words generator.old }

@@ -1,11 +1,11 @@
-//! The axes: MiB on the vertical one, calls on the horizontal one.
+//! The axes of the plot. The vertical axis shows MiB, and the horizontal axis shows calls.
 use crate::plot::PLOT;
 use crate::scale::{Axis, MARKS};
 use crate::style::MARK;
 use crate::words::{add_calls, add_tenths};
 use mesh_svg::{Anchor, Label, Look, Text, add_path};
 
-/// The length of the mark of a call.
+/// The length of a mark on the axis of calls.
 const TICK: u32 = 50;
 
 /// Draws the axis of pages, with a line across the plot at each mark.

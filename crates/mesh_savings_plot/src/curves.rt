@@ -1,4 +1,4 @@
-//! `Curves`, which gathers the samples after each call.
+//! `Curves`, which gathers one sample after each call.
 ghost use Rattle.std.specs.Prelude.{◌≡◌, ◌<◌, ◌≤◌, ◌^◌, ◌↔◌, ◌∷◌, [], ◌++◌, List, IfOk, IsTrue, codes};
 ghost use Rattle.mesh_figures.specs.declared.samples.Sample.{Sample};
 ghost use Rattle.mesh_figures.specs.declared.samples.Window.{Window};
@@ -14,8 +14,9 @@ use mesh_svg::Text;
 use std::alloc::{AllocError, Global};
 use std::marker::Model;
 
-/// Four curves over the calls that are measured, kept in at most 600 intervals of equally many calls each. `Curves`
-/// takes one sample after each call. For each curve an interval keeps the least and the greatest value.
+/// Four curves over the measured calls. The calls are divided into at most 600 intervals of equal size, but the last
+/// interval may have fewer calls. `Curves` takes one sample after each call. For each curve, an interval keeps the
+/// least and the greatest value.
 #[derive(Drop)]
 pub struct Curves {
     window: Window,
@@ -44,8 +45,8 @@ impl Model for Curves {
 }
 
 impl Curves {
-    /// Makes the curves of no calls, and allocates all the memory that they will use. An error is an allocation
-    /// failure.
+    /// Makes curves without calls, and allocates all memory that their samples will use. Returns an error if an
+    /// allocation fails.
     pub fn new(alloc: Global, window: Window) -> Result<Curves, AllocError>
         ensures { IfOk result (λ curves. IsOf curves window []) }
     {
@@ -56,14 +57,15 @@ impl Curves {
         })
     }
 
-    /// Whether 2^32 - 1 calls were looked at. `look` must not be called then.
+    /// Whether `look` was called 2^32 - 1 times. `look` must not be called then.
     pub fn is_full(&self) -> bool
         ensures { IsTrue result ↔ 4294967295 ≤ self.now.calls }
     {
         self.calls == u32::MAX
     }
 
-    /// Takes the sample of both heaps after the next call. Only calls in the window are measured. It allocates nothing.
+    /// Takes the sample of both heaps after the next call. Only calls in the window are measured. `look` allocates
+    /// nothing.
     pub fn look(&mut self, sample: &Sample)
         requires room { self.old.calls < 4294967295 }
         requires without { AreFew sample.now.without }
@@ -79,7 +81,7 @@ impl Curves {
         }
     }
 
-    /// Returns the plot as an SVG file. An error is an allocation failure.
+    /// Returns the plot as an SVG file. Returns an error if an allocation fails.
     pub fn picture(&self, alloc: Global) -> Result<Vec<u8>, AllocError>
         ensures { IfOk result (λ file. Begins (codes "<svg") file.items) }
     {
@@ -91,7 +93,7 @@ impl Curves {
         Ok(file)
     }
 
-    /// The data of the plot.
+    /// Returns the data of the plot.
     fn plotted(&self) -> Plotted<'_> {
         Plotted {
             intervals: self.intervals.used(),

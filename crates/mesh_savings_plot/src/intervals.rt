@@ -1,4 +1,4 @@
-//! Readings, gathered in at most 600 intervals of equally many calls each.
+//! Gathers readings in at most 600 intervals of equally many calls. The last interval may have fewer calls.
 ghost use Rattle.std.specs.Prelude.{◌≡◌, ◌+◌, ◌*◌, ◌<◌, ◌≤◌, [], ◌∷◌, ◌++◌, List, ℕ, IfOk, length, take};
 ghost use Rattle.std.specs.Int.{div_ceil};
 ghost use Rattle.mesh_savings_plot.specs.Intervals.{AreOf, IsSound, interval_at, interval_of, piece};
@@ -8,10 +8,10 @@ use crate::readings::Reading;
 use crate::spans::{Interval, Span};
 use std::alloc::{AllocError, Global};
 
-/// The greatest number of intervals.
+/// The maximal number of intervals.
 pub const MOST: usize = 600;
 
-/// An interval of no calls.
+/// The span of a curve in an interval without calls.
 const NOTHING: Span = Span {
     least: 0,
     greatest: 0,
@@ -20,16 +20,16 @@ const NOTHING: Span = Span {
 /// Intervals of equally many calls each, except that the last may have fewer.
 #[derive(Drop)]
 pub struct Intervals {
-    /// The intervals. Entries after those that the calls make are unused room.
+    /// The intervals of the calls so far, followed by unused entries.
     pub list: Vec<Interval>,
-    /// The number of calls of an interval: a power of two.
+    /// The number of calls in a full interval. It is a power of two.
     pub width: u32,
-    /// The number of calls of all intervals.
+    /// The number of calls in all intervals together.
     pub count: u32,
 }
 
 impl Intervals {
-    /// Makes an empty list of intervals, with room for all. An error is an allocation failure.
+    /// Makes an empty list of intervals, with room for 600 intervals. Returns an error if an allocation fails.
     pub fn new(alloc: Global) -> Result<Intervals, AllocError>
         ensures value { IfOk result (λ intervals. AreOf intervals []) }
         ensures sound { IfOk result (λ intervals. IsSound intervals) }
@@ -48,7 +48,7 @@ impl Intervals {
         })
     }
 
-    /// Takes the reading after the next call.
+    /// Adds the reading after the next call.
     pub fn add(&mut self, reading: Reading)
         requires room { self.old.count < 4294967295 }
         requires sound { IsSound self.old }
@@ -62,7 +62,7 @@ impl Intervals {
         self.put(reading);
     }
 
-    /// The intervals that the calls make.
+    /// Returns the intervals of the calls so far.
     pub fn used(&self) -> &[Interval]
         requires { IsSound self.now }
         ensures { result.now ≡ take (div_ceil self.now.count self.now.width) self.now.list.items }
@@ -71,7 +71,8 @@ impl Intervals {
         &self.list[..used]
     }
 
-    /// Joins neighbours, so that intervals have twice as many calls. All intervals must be full.
+    /// Joins each pair of neighbouring intervals, which doubles the number of calls in an interval. All 600 intervals
+    /// must be full.
     fn join(&mut self)
         requires sound { IsSound self.old }
         requires full { self.old.count ≡ 600 * self.old.width }
@@ -90,7 +91,8 @@ impl Intervals {
         self.width *= 2;
     }
 
-    /// Takes the reading after the next call when there is room for it: in the last interval, or in a new one.
+    /// Adds the reading after the next call to the last interval, or to a new interval if the last is full. There must
+    /// be room for the reading.
     fn put(&mut self, reading: Reading)
         requires few { self.old.count < 4294967295 }
         requires room { length self.old.list.items ≡ 600 }

@@ -1,4 +1,4 @@
-//! The legend: a piece of each line, with its name.
+//! The legend: a piece of each curve, with the name of the curve.
 use crate::lines::{CURVES, Curve};
 use crate::plot::PLOT;
 use crate::style::NOTE;
@@ -7,7 +7,7 @@ use mesh_svg::{Anchor, Label, Look, Text, add_path};
 /// The distance between the starts of two names.
 const COLUMN: u32 = 1_900;
 
-/// The length of a piece of a line.
+/// The length of a piece of a curve.
 const PIECE: u32 = 420;
 
 /// The baseline of the names.

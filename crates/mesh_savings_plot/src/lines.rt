@@ -11,9 +11,9 @@ pub enum Curve {
     Without,
     /// Pages of the heap that meshes.
     With,
-    /// Pages if the live objects were packed perfectly.
+    /// The pages that the live objects would need if they were packed perfectly.
     Perfect,
-    /// The live bytes in whole pages.
+    /// The live bytes in whole pages, rounded up.
     Live,
 }
 
@@ -21,7 +21,7 @@ pub enum Curve {
 pub static CURVES: [Curve; 4] = [Curve::Without, Curve::With, Curve::Perfect, Curve::Live];
 
 impl Curve {
-    /// Its name.
+    /// Returns the name of the curve.
     pub fn name(self) -> &'static str {
         match self {
             Curve::Without => "without meshing",
@@ -31,7 +31,7 @@ impl Curve {
         }
     }
 
-    /// Its style rule.
+    /// Returns the style rule of the curve.
     pub fn look(self) -> Look {
         match self {
             Curve::Without => Look::of("without"),
@@ -41,7 +41,7 @@ impl Curve {
         }
     }
 
-    /// Its least and greatest value in an interval.
+    /// Returns the least and the greatest value of the curve in an interval.
     fn span(self, interval: &Interval) -> Span {
         match self {
             Curve::Without => interval.without,
@@ -56,13 +56,13 @@ impl Curve {
 #[derive(Clone, Copy)]
 pub struct Drawn<'a> {
     pub intervals: &'a [Interval],
-    /// The number of calls of an interval.
+    /// The number of calls in a full interval.
     pub width: u32,
     pub calls: Axis,
     pub pages: Axis,
 }
 
-/// The greatest number of pages of all curves.
+/// Returns the greatest number of pages in any curve.
 pub fn most_pages(intervals: &[Interval]) -> u32 {
     let mut most = 0u32;
     for interval in intervals {
@@ -91,8 +91,9 @@ impl Drawn<'_> {
         end_path(text);
     }
 
-    /// The points of an interval that begins after `begin` calls: its least and its greatest value, at its first and
-    /// its last call. Which of the two values came first is not recorded: if the curve rises, the least is drawn first.
+    /// Returns the two points of an interval that begins after `begin` calls: one at its first call, and one at its
+    /// last call. The points show the least and the greatest value. Which of these values came first isn't recorded. If
+    /// the curve rises, the least value is drawn first.
     fn points(&self, begin: u32, span: Span, rising: bool) -> [(u32, u32); 2] {
         let end = begin.saturating_add(self.width).min(self.calls.last);
         let first = self.x(begin.saturating_add(1).min(end));
@@ -106,19 +107,20 @@ impl Drawn<'_> {
         }
     }
 
-    /// The horizontal position of a call.
+    /// Returns the horizontal position of a call.
     fn x(&self, call: u32) -> u32 {
         self.calls.place(call, PLOT.w).saturating_add(PLOT.x)
     }
 
-    /// The vertical position of a number of pages.
+    /// Returns the vertical position of a number of pages.
     fn y(&self, pages: u32) -> u32 {
         let height = self.pages.place_of_pages(pages, PLOT.h);
         PLOT.bottom().saturating_sub(height)
     }
 }
 
-/// Whether a curve rises from an interval to the next.
+/// Whether a curve doesn't fall from the interval before to this interval, by the middles of its spans. True if there
+/// is no interval before.
 fn is_rising(before: Option<Span>, span: Span) -> bool {
     match before {
         Some(before) => before.middle() <= span.middle(),

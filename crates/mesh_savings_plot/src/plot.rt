@@ -27,16 +27,16 @@ const TITLE: &str = "Physical memory with and without meshing";
 #[derive(Clone, Copy)]
 pub struct Plotted<'a> {
     pub intervals: &'a [Interval],
-    /// The number of calls of an interval.
+    /// The number of calls in a full interval.
     pub width: u32,
-    /// The number of calls before the first one that is measured.
+    /// The number of calls before the first measured call.
     pub before: u32,
-    /// The number of calls of all intervals.
+    /// The number of calls in all intervals together.
     pub count: u32,
 }
 
 impl Plotted<'_> {
-    /// Draws the plot, after the first word of the file.
+    /// Draws the plot. The drawn text follows `<svg`, the first word of the file.
     pub fn draw(&self, text: &mut Text) {
         let mut title = text.empty();
         title.add(TITLE.as_bytes());
@@ -53,7 +53,7 @@ impl Plotted<'_> {
         text.add(b"</svg>\n");
     }
 
-    /// Draws the curves, or a note that there are none.
+    /// Draws the curves, or a note that there are no curves.
     fn draw_curves(&self, text: &mut Text, calls: Axis, pages: Axis) {
         if self.count == 0 {
             return draw_nothing(text);
@@ -69,7 +69,7 @@ impl Plotted<'_> {
         }
     }
 
-    /// Draws the title, and a note on what the numbers are.
+    /// Draws the title, and a note that explains the numbers.
     fn draw_head(&self, text: &mut Text) {
         let title = Label {
             look: Look::of("ink").with(HEADING),

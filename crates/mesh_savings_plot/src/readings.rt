@@ -1,4 +1,4 @@
-//! The numbers of pages that the curves show of a sample.
+//! The numbers of pages that the curves show for a sample.
 ghost use Rattle.std.specs.Prelude.{◌≡◌, ◌<◌, ◌^◌, sum};
 ghost use Rattle.std.specs.Int.{div_ceil};
 ghost use Rattle.mesh_figures.specs.Samples.{AreFew};
@@ -9,7 +9,7 @@ use mesh_figures::Sample;
 /// The number of size classes.
 const CLASSES: usize = 10;
 
-/// The number of bytes of a page.
+/// The size of a page in bytes.
 const PAGE: u64 = 4096;
 
 /// The numbers of pages after a call, one for each curve.
@@ -19,14 +19,14 @@ pub struct Reading {
     pub without: u32,
     /// Pages of the heap that meshes.
     pub with: u32,
-    /// Pages if the live objects were packed perfectly.
+    /// The pages that the live objects would need if they were packed perfectly.
     pub perfect: u32,
     /// The live bytes in whole pages, rounded up.
     pub live: u32,
 }
 
 impl Reading {
-    /// The numbers of pages of a sample.
+    /// Returns the numbers of pages for a sample.
     pub fn of(sample: &Sample) -> Reading
         requires without { AreFew sample.now.without }
         requires with { AreFew sample.now.with }
@@ -43,7 +43,7 @@ impl Reading {
     }
 }
 
-/// The sum of the pages of all classes.
+/// Returns the sum of the pages of all classes.
 fn total(pages: &[u32; CLASSES]) -> u32
     requires { AreFew pages.now }
     ensures { result ≡ sum pages.now }
@@ -51,7 +51,7 @@ fn total(pages: &[u32; CLASSES]) -> u32
     pages.iter().sum()
 }
 
-/// Bytes in whole pages, rounded up.
+/// Returns the number of pages that `bytes` bytes need.
 fn whole_pages(bytes: u64) -> u32
     requires { bytes < 2 ^ 40 }
     ensures { result ≡ div_ceil bytes 4096 }

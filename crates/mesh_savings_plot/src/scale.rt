@@ -1,6 +1,6 @@
 //! Axes with round steps, and the positions of calls and pages on them.
 
-/// The greatest number of marks of an axis.
+/// The maximal number of marks on an axis.
 pub const MARKS: u32 = 8;
 
 /// The steps of an axis.
@@ -35,7 +35,7 @@ static STEPS: [u32; 28] = [
     1_000_000_000,
 ];
 
-/// An axis from a number to a greater one, with marks at the multiples of a step.
+/// An axis from the number `first` to the greater number `last`, with marks at the multiples of `step`.
 #[derive(Clone, Copy)]
 pub struct Axis {
     pub first: u32,
@@ -44,7 +44,7 @@ pub struct Axis {
 }
 
 impl Axis {
-    /// The axis of `calls` calls after the first `before` ones.
+    /// Returns the axis of `calls` calls after the first `before` calls. The axis has room for at least one call.
     pub fn of_calls(before: u32, calls: u32) -> Axis {
         let calls = calls.max(1);
         Axis {
@@ -54,7 +54,7 @@ impl Axis {
         }
     }
 
-    /// The axis in tenths of a MiB, from 0 to the least mark that is at least `most` pages.
+    /// Returns the axis in tenths of a MiB, from 0 to the first mark that isn't below `most` pages.
     pub fn of_pages(most: u32) -> Axis {
         let tenths = tenths_of(most).max(1);
         let step = round_step(tenths).max(1);
@@ -65,7 +65,7 @@ impl Axis {
         }
     }
 
-    /// The mark at this place, counted from 0, if there is one.
+    /// Returns the mark at index `place`, counted from 0, or `None` if the axis has no such mark.
     pub fn mark(self, place: u32) -> Option<u32> {
         let step = self.step.max(1);
         let number = self
@@ -80,25 +80,26 @@ impl Axis {
         }
     }
 
-    /// The distance of a number from the start of the axis, if the axis has this length.
+    /// Returns the distance of a number from the start of an axis of this length.
     pub fn place(self, number: u32, length: u32) -> u32 {
         let part = u64::from(number.saturating_sub(self.first));
         let whole = u64::from(self.last.saturating_sub(self.first));
         share(length, part, whole)
     }
 
-    /// The distance of a number of pages from the start of an axis in tenths of a MiB, if the axis has this length.
+    /// Returns the distance of a number of pages from the start of an axis of this length. The axis is in tenths of a
+    /// MiB.
     pub fn place_of_pages(self, pages: u32, length: u32) -> u32 {
         share(length, 5 * u64::from(pages), 128 * u64::from(self.last))
     }
 }
 
-/// Pages of 4,096 bytes in tenths of a MiB, rounded up: 128 pages are 5 tenths.
+/// Converts pages of 4,096 bytes to tenths of a MiB, rounded up. 128 pages are 5 tenths.
 fn tenths_of(pages: u32) -> u32 {
     (5 * u64::from(pages)).div_ceil(128) as u32
 }
 
-/// The least step that makes at most seven marks within this span.
+/// Returns the least of the steps that cover this span with at most six steps. The axis then has at most seven marks.
 fn round_step(span: u32) -> u32 {
     for step in &STEPS {
         if span.div_ceil(6) <= *step {
@@ -108,7 +109,7 @@ fn round_step(span: u32) -> u32 {
     1_000_000_000
 }
 
-/// The part of a length that is proportional to a part of a number.
+/// Returns `length * part / whole`, rounded down and at most `length`. Returns 0 if `whole` is 0.
 fn share(length: u32, part: u64, whole: u64) -> u32 {
     let share = u64::from(length)
         .saturating_mul(part)

@@ -22,7 +22,7 @@ pub struct Interval {
 }
 
 impl Span {
-    /// The span of one number.
+    /// Returns the span of one number.
     pub fn of(pages: u32) -> Span
         ensures { result ≡ span_of (pages ∷ []) }
     {
@@ -32,7 +32,7 @@ impl Span {
         }
     }
 
-    /// The span of both spans together.
+    /// Returns the smallest span that contains both spans.
     pub fn joined(self, next: Span) -> Span
         ensures least { result.least ≡ min self.least next.least }
         ensures greatest { result.greatest ≡ max self.greatest next.greatest }
@@ -43,7 +43,7 @@ impl Span {
         }
     }
 
-    /// Twice the middle between least and greatest.
+    /// Returns twice the middle between the least and the greatest number.
     pub fn middle(self) -> u64
         ensures { result ≡ self.least + self.greatest }
     {
@@ -52,7 +52,7 @@ impl Span {
 }
 
 impl Interval {
-    /// The interval of one call.
+    /// Returns the interval of one call.
     pub fn of(reading: Reading) -> Interval
         ensures { result ≡ interval_of (reading ∷ []) }
     {
@@ -64,7 +64,7 @@ impl Interval {
         }
     }
 
-    /// The interval of the calls of both intervals. Neither may be empty.
+    /// Returns the interval that has the calls of both intervals. Both intervals must have at least one call.
     pub fn joined(self, next: Interval) -> Interval
         ensures { (these those : List Reading) → 0 < length these → 0 < length those → self ≡ interval_of these
             → next ≡ interval_of those

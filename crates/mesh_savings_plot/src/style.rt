@@ -16,15 +16,15 @@ static LETTERING: [&str; 2] = [
     ".ft{font-size:170px;font-weight:bold}.fn{font-size:110px}.fa{font-size:110px}",
 ];
 
-/// Rules of backgrounds, of text colours, and of the lines of the axes.
+/// The rules of backgrounds, text colours, and the lines of the axes.
 static GROUNDS: [&str; 3] = [
     ".bg{fill:#f3f4f6}.card{fill:#fff;stroke:#c8cdd4;stroke-width:10}",
     ".ink{fill:#1d2430}.soft{fill:#58626d}",
     ".grid{fill:none;stroke:#dfe3e8;stroke-width:8}.tick{fill:none;stroke:#7b848d;stroke-width:10}",
 ];
 
-/// Rules of the lines of the curves. Most colour-blind readers can tell their colours apart. If curves overlap, all are
-/// visible: the first is wider than those above it, and two are dashed.
+/// The rules of the lines of the curves. Most colour-blind readers can distinguish the colours. If curves overlap, all
+/// stay visible: the first curve is wider than the curves drawn on top of it, and two curves are dashed.
 static CURVES: [&str; 5] = [
     ".without,.with,.perfect,.live{fill:none;stroke-linecap:round;stroke-linejoin:round}",
     ".without{stroke:#d55e00;stroke-width:20}",
@@ -33,7 +33,7 @@ static CURVES: [&str; 5] = [
     ".live{stroke:#cc79a7;stroke-width:16;stroke-dasharray:1 32}",
 ];
 
-/// Rules of backgrounds, text colours and lines for a dark background.
+/// The rules of backgrounds, text colours and lines for a dark background.
 static DARK: [&str; 5] = [
     ".bg{fill:#101418}.card{fill:#1a2027;stroke:#39434e}",
     ".ink{fill:#e8ecf1}.soft{fill:#a4afbb}",

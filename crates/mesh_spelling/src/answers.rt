@@ -1,4 +1,4 @@
-//! The answer lines, without their ends, and the words that they consist of.
+//! The text of answer lines and of their parts, without line ends.
 ghost use Rattle.std.specs.Prelude.{◌≡◌, ◌+◌, ◌<◌, ◌≤◌, ◌++◌, decimal, length, vec_capacity, vec_len, OnOk};
 ghost use Rattle.model_jobs.specs.Texts.{address_text, byte_text, bytes_text, hex_digit, refusal_text, reply_text};
 ghost use Rattle.mesh_spelling.specs.Addresses.{wide_text};
@@ -11,7 +11,7 @@ pub use mesher::{add_counted, add_found, add_report, add_step};
 use model_words::{MAX_BYTES, Refusal, Reply};
 use std::alloc::AllocError;
 
-/// Appends the line of a reply. An error is an allocation failure.
+/// Appends the answer line of a reply, without a line end. An error is an allocation failure.
 pub fn add_reply(text: &mut Vec<u8>, reply: &Reply) -> Result<(), AllocError>
     ensures { OnOk result (text.new.items ≡ text.old.items ++ reply_text reply.now) }
 {
@@ -62,7 +62,7 @@ pub fn add_decimal(text: &mut Vec<u8>, number: u64) -> Result<(), AllocError>
     text.extend_from_slice(digits.format(number).as_bytes())
 }
 
-/// The most digits of an address.
+/// The greatest number of hexadecimal digits of an address.
 const MAX_DIGITS: usize = 16;
 
 /// Adds an address in hexadecimal digits without a leading zero. An error is an allocation failure.
@@ -76,7 +76,7 @@ pub fn add_address(text: &mut Vec<u8>, address: u64) -> Result<(), AllocError>
     Ok(())
 }
 
-/// Adds the digits of an address, for which there is room.
+/// Appends the hexadecimal digits of an address. The text must have room for them.
 #[tactic(auto, using(crate::proofs::Addresses::one_length, crate::proofs::Addresses::more_length))]
 fn push_address(text: &mut Vec<u8>, address: u64)
     requires { vec_len text.old + length (wide_text address) ≤ vec_capacity text.old }

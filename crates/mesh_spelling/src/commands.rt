@@ -61,7 +61,7 @@ fn add_poke(text: &mut Vec<u8>, address: u32, byte: u8) -> Result<(), AllocError
     add_run(text, &[byte])
 }
 
-/// Adds the name of a command and its numbers, a space before each.
+/// Appends the name of a command, and then each number with a space before it.
 pub(crate) fn add_named(text: &mut Vec<u8>, name: &[u8], numbers: &[u64]) -> Result<(), AllocError>
     ensures { OnOk result (text.new.items ≡ text.old.items ++ name.now ++ flat_map number_field numbers.now) }
 {
@@ -69,7 +69,7 @@ pub(crate) fn add_named(text: &mut Vec<u8>, name: &[u8], numbers: &[u64]) -> Res
     add_numbers(text, numbers)
 }
 
-/// Adds the name of a command, which ends in a space, and an address.
+/// Appends the name of a command and an address. The name passed in ends in a space.
 fn add_placed(text: &mut Vec<u8>, name: &[u8], address: u32) -> Result<(), AllocError>
     ensures { OnOk result (text.new.items ≡ text.old.items ++ name.now ++ address_text address) }
 {

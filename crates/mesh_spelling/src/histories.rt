@@ -30,7 +30,7 @@ pub fn history_lines(alloc: Global, workers: u32, history: &[Entry]) -> Result<V
     Ok(text)
 }
 
-/// The part of each worker.
+/// Returns the part of each worker: the line `worker W` and the worker's answers.
 fn parts_of(alloc: Global, workers: u32, history: &[Entry]) -> Result<Vec<Vec<u8>>, AllocError>
     requires { All (λ entry. entry.worker < workers) history.now }
     ensures { IfOk result
@@ -43,7 +43,7 @@ fn parts_of(alloc: Global, workers: u32, history: &[Entry]) -> Result<Vec<Vec<u8
     Ok(parts)
 }
 
-/// The part of each worker before any entry.
+/// Returns the part of each worker before its first answer: the line `worker W`.
 fn begun_parts(alloc: Global, workers: u32) -> Result<Vec<Vec<u8>>, AllocError>
     ensures { IfOk result (λ parts. map vec_items parts.items ≡ map worker_line (range_with_len 0 workers)) }
 {
@@ -54,7 +54,7 @@ fn begun_parts(alloc: Global, workers: u32) -> Result<Vec<Vec<u8>>, AllocError>
     Ok(parts)
 }
 
-/// The line that begins a worker's part.
+/// The line `worker W`, which begins a worker's part.
 fn begun_part(alloc: Global, worker: u32) -> Result<Vec<u8>, AllocError>
     ensures { IfOk result (λ part. part.items ≡ worker_line worker) }
 {

@@ -1,10 +1,11 @@
 //! Commands, lines of a plan, jobs, answers and histories as text.
 //!
-//! The `add_..` functions append a line of a replay to a text: the answer to a command, a search, a step or a report.
-//! Others append a command or a line of a plan as it is spelt in a job file, or a whole job.
+//! Some `add_..` functions append an answer line of a replay: the answer to a command, a search, a step or a report.
+//! The other `add_..` functions append a command or a plan line in the format of a job file, or a whole job.
 //!
-//! `history_lines` is the text of a history in which each worker's answers are together. `recorded_history` is the text
-//! of a history whose entries are in order, each with its command. An error is an allocation failure throughout.
+//! `history_lines` returns the text of a history in which each worker's answers are together. `recorded_history`
+//! returns the text of a history whose entries are in order, each with its command. An error is an allocation failure
+//! throughout.
 #![tactic(auto)]
 
 mod answers;

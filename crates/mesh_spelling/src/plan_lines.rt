@@ -32,7 +32,7 @@ pub fn add_plan_line(text: &mut Vec<u8>, line: &PlanLine) -> Result<(), AllocErr
     }
 }
 
-/// Appends the name of a mesh's line and its two groups.
+/// Appends the name of a mesh's plan line, its source and its destination.
 fn add_groups(
     text: &mut Vec<u8>,
     name: &[u8],
@@ -45,7 +45,7 @@ fn add_groups(
     add_named(text, name, &[u64::from(source), u64::from(destination)])
 }
 
-/// Adds a search with its words.
+/// Appends the line of a search: its class, its number of rounds, and its words.
 fn add_search(text: &mut Vec<u8>, search: &Search) -> Result<(), AllocError>
     ensures { OnOk result
         (text.new.items ≡ text.old.items

@@ -1,5 +1,5 @@
-//! `Heap`: making, reading, writing, copying and freeing objects. The calls of a mesher are in `meshes`, and its
-//! search's view of the heap is in `views`.
+//! `Heap`: the calls that make, read, write, copy and free objects. A mesher's calls are in `meshes`, and the views
+//! that its search reads are in `views`.
 ghost use Rattle.std.specs.Prelude.{◌≡◌, ℕ, ◌+◌, ◌-◌, ◌^◌, ◌<◌, ◌≤◌, true, false, Ok, Err, Some, [], ◌∷◌, length, List, Option, IfOk, IfErr, IfSome, IfNone, IsSomeAnd, is_ok};
 ghost use Rattle.model_heap.specs.Mesh.{is_blocked};
 ghost use Rattle.model_heap.specs.Places.{Record, IsIn, record_with};
@@ -46,8 +46,8 @@ impl Drop for Heap {
 }
 
 impl Heap {
-    /// Returns a heap without objects over `pages` physical pages, 1 to 4,096. It allocates the arena, the page map and
-    /// the index's table.
+    /// Returns a heap without objects over `pages` physical pages, 1 to 4,096. The call allocates the arena, the page
+    /// map and the index's table. Returns an error if an allocation fails.
     pub fn open(alloc: Global, pages: u32) -> Result<Heap, AllocError>
         requires some { 1 ≤ pages }
         requires most { pages ≤ 4096 }
@@ -72,11 +72,11 @@ impl Heap {
         self.next_serial == u32::MAX
     }
 
-    /// Makes an object of `len` zero bytes. The word picks the slot among the free ones of the group that takes the
-    /// object. Check `is_full` first: a serial must be left.
+    /// Makes an object of `len` zero bytes, and returns a reference to it. `word` picks one of the free slots of the
+    /// object's group. `is_full` must be false before the call.
     ///
-    /// The error is the first of ZERO, TOO_LARGE, NO_PAGES and NO_ADDRESSES that holds, or an allocation failure, which
-    /// comes only if a new span is needed.
+    /// The error is the first of ZERO, TOO_LARGE, NO_PAGES and NO_ADDRESSES that applies. If none applies, but an
+    /// allocation for a new span fails, the error is `Memory`. After an error, nothing has changed.
     pub fn new(&mut self, len: u32, word: u64) -> Result<Ref, NewFault>
         requires { self.old.next_serial < 2 ^ 32 - 1 }
         ensures made { IfOk result (IsMade self.old self.new len word) }
@@ -90,10 +90,9 @@ impl Heap {
         Ok(Ref { serial, addr })
     }
 
-    /// Returns `len` bytes, 1 to 32, from offset `off` of an object. It allocates nothing.
+    /// Returns `len` bytes, 1 to 32, from offset `off` of an object. The call allocates nothing.
     ///
-    /// The error is FREED if the object isn't live, and OUTSIDE if the sum of offset and length is above the object's
-    /// length.
+    /// The error is FREED if the object isn't live, and otherwise OUTSIDE if `off + len` exceeds the object's length.
     pub fn read(&self, object: Ref, off: u32, len: u32) -> Result<ArrayVec<u8, MAX_BYTES>, Refusal>
         requires some { 1 ≤ len }
         requires few { len ≤ 32 }
@@ -109,11 +108,11 @@ impl Heap {
         Ok(self.fetch(object, off, len))
     }
 
-    /// Stores 1 to 32 bytes from offset `off` of an object on. It allocates nothing.
+    /// Stores 1 to 32 bytes from offset `off` of an object on. The call allocates nothing.
     ///
-    /// Refused with FREED if the object isn't live, and with OUTSIDE if the sum of offset and length is above the
-    /// object's length. Blocked if neither holds and a touched page is read-only. A refused or blocked call stores no
-    /// byte.
+    /// The store is refused with FREED if the object isn't live, and otherwise with OUTSIDE if the range ends past the
+    /// object. If neither applies, a store that would write to a read-only page is blocked. A refused or blocked call
+    /// stores no byte.
     pub fn write(&mut self, object: Ref, off: u32, bytes: &[u8]) -> Stored
         requires some { 1 ≤ length bytes.now }
         requires few { length bytes.now ≤ 32 }
@@ -135,13 +134,13 @@ impl Heap {
         self.save(object.serial, object.addr, off, bytes)
     }
 
-    /// Copies 1 to 32 bytes from offset `from_off` of one object to offset `to_off` of another, or of the same. It
-    /// allocates nothing.
+    /// Copies 1 to 32 bytes from offset `from_off` of one object to offset `to_off` of another object, or of the same
+    /// object. The call allocates nothing.
     ///
-    /// If the two ranges overlap, each copied byte is the one that was there before the copy. Refused with FREED if
-    /// either object isn't live, and otherwise with OUTSIDE if either range ends past its object. Blocked if neither
-    /// holds and a page that the written range touches is read-only; the range that is read may be in a read-only page.
-    /// A refused or blocked call stores no byte.
+    /// If the two ranges overlap, the written bytes are those that the range to read contained before the copy. The
+    /// copy is refused with FREED if either object isn't live, and otherwise with OUTSIDE if either range ends past its
+    /// object. If neither applies, a copy that would write to a read-only page is blocked. A read-only page in the
+    /// range to read doesn't block the copy. A refused or blocked call stores no byte.
     pub fn copy(&mut self, to: Ref, to_off: u32, from: Ref, from_off: u32, len: u32) -> Stored
         requires some { 1 ≤ len }
         requires few { len ≤ 32 }
@@ -167,8 +166,8 @@ impl Heap {
         self.save(to.serial, to.addr, to_off, bytes.as_slice())
     }
 
-    /// Returns the byte at an address. It allocates nothing. The error is STRAY if no live object's range contains the
-    /// address.
+    /// Returns the byte at an address. The call allocates nothing. The error is STRAY if no live object's range
+    /// contains the address.
     pub fn peek(&self, addr: u32) -> Result<u8, Refusal>
         ensures byte { IfOk result (λ byte. byte_at_address (plain_of self.now) addr ≡ Ok byte) }
         ensures refused { IfErr result (λ refusal. byte_at_address (plain_of self.now) addr ≡ Err refusal) }
@@ -181,10 +180,10 @@ impl Heap {
         Ok(byte[0])
     }
 
-    /// Stores a byte at an address. It allocates nothing.
+    /// Stores a byte at an address. The call allocates nothing.
     ///
-    /// Refused with STRAY if no live object's range contains the address. Blocked if one does and its page is
-    /// read-only.
+    /// The store is refused with STRAY if no live object's range contains the address. Otherwise, the store is blocked
+    /// if the page of the address is read-only. A refused or blocked call stores no byte.
     pub fn poke(&mut self, addr: u32, byte: u8) -> Stored
         ensures done { result ≡ Stored.Done
             → IsStored self.old self.new (stored_at_address (plain_of self.old) addr byte)
@@ -201,8 +200,8 @@ impl Heap {
         self.save(held.serial, addr - held.offset, held.offset, &[byte])
     }
 
-    /// Frees an object: its slot record is emptied. Its bytes and pages don't change. The error is FREED if the object
-    /// isn't live.
+    /// Frees an object by emptying the record of its slot. Arena and page map don't change. The error is FREED if the
+    /// object isn't live. After an error, nothing has changed.
     pub fn free(&mut self, object: Ref) -> Result<(), Refusal>
         ensures freed { IfOk result (λ _. IsFree self.old self.new object) }
         ensures refused { IfErr result
@@ -221,16 +220,20 @@ impl Heap {
     }
 
     /// Returns the heap's counts: live objects and their bytes, mapped and taken pages, and the number of pages that
-    /// meshing saves. It allocates nothing, and takes the same time whatever the number of groups.
+    /// meshing saves. The call allocates nothing, and its time doesn't depend on the number of groups.
     pub fn report(&self) -> Report
         ensures { counts_told result ≡ report_of (length (arena_of self.now)) (table_of self.now) }
     {
         self.pages.report()
     }
 
-    /// Invariants of every heap. Two different bytes of live objects never share a place, and no free page contains a
-    /// live object. The read-only pages are exactly those of the running meshes. Groups, page map and arena agree with
-    /// the progress of these meshes.
+    /// Invariants of every heap:
+    ///
+    /// - No two live objects share an address.
+    /// - No two bytes of live objects share a place in physical memory.
+    /// - No free page contains a live object.
+    /// - The read-only virtual pages are exactly those that the running meshes have protected.
+    /// - Groups, page map and arena agree with the progress of the running meshes.
     pub fn always(&self)
         ensures objects { HasObjectsApart self.now }
         ensures places { HasPlacesApart self.now }
@@ -241,14 +244,14 @@ impl Heap {
         self.pages.sound();
     }
 
-    /// Invariants of the heap's table: it is sound, and it names the live objects.
+    /// Invariants of the heap's table: the table is sound, and its records are those of the live objects.
     pub fn sound(&self)
         ensures { IsHeap self.now }
     {
         let _next = self.next_serial;
     }
 
-    /// The bytes of a part of a live object.
+    /// Returns `len` bytes of a live object, from offset `off` on.
     fn fetch(&self, object: Ref, off: u32, len: u32) -> ArrayVec<u8, MAX_BYTES>
         requires some { 1 ≤ len }
         requires few { len ≤ 32 }
@@ -263,7 +266,8 @@ impl Heap {
         bytes
     }
 
-    /// Stores bytes within a live object.
+    /// Stores bytes in a live object, from offset `off` on. Returns `Blocked`, and stores nothing, if a page of the
+    /// range is read-only.
     fn save(&mut self, serial: u32, addr: u32, off: u32, bytes: &[u8]) -> Stored
         requires some { 1 ≤ length bytes.now }
         requires few { length bytes.now ≤ 32 }
@@ -294,7 +298,7 @@ impl Heap {
         }
     }
 
-    /// The object whose range contains the address.
+    /// Returns the object whose range contains the address, or `None` if no live object's range does.
     fn holder(&self, addr: u32) -> Option<Occupied>
         ensures there { IfSome result (IsHeld self.now addr) }
         ensures none { IfNone result (holding (plain_of self.now) addr ≡ Err Refusal.Stray) }
@@ -308,7 +312,8 @@ impl Heap {
         }
     }
 
-    /// The object in whose slot an address is. `None` only if no live object's range contains the address.
+    /// Returns the object whose slot contains the address. If the range of a live object contains the address, the
+    /// result is this object.
     fn object_at(&self, addr: u32) -> Option<Occupied>
         ensures there { IfSome result (IsObjectAt self.now addr) }
         ensures found { (serial : ℕ) (r : Record) → record_with serial (live_records self.now) ≡ Some r → IsIn r addr

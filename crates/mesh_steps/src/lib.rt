@@ -1,7 +1,7 @@
 //! A heap of objects in slots of spans, over physical pages and a page map.
 //!
-//! A mutator makes, reads, writes, copies and frees objects. Meanwhile a mesher puts two groups on one physical span,
-//! step by step; addresses and bytes of objects don't change.
+//! A mutator makes, reads, writes, copies and frees objects. Meanwhile, a mesher puts two groups on one physical span,
+//! step by step. The addresses and bytes of objects don't change.
 //!
 //! A contract sees a heap as its physical pages, its page map, its span index, the next virtual page, the running
 //! meshes and the next serial.

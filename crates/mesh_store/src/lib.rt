@@ -1,9 +1,10 @@
-//! The bytes at virtual addresses: an arena of physical pages, and the page map that leads to them.
+//! Loads and stores of bytes at virtual addresses, over an arena of physical pages and a page map.
 //!
-//! An address is a virtual page times 4,096 plus an offset. Its byte is at that offset of the physical page to which
-//! the virtual page is mapped. Contracts see the two public fields. They refer to bytes by address (`byte_of`, and the
-//! records `AreBacked` and `Saves` of `specs/Places.antt`), never to the pages that a range touches. No call but `open`
-//! allocates.
+//! An address is a virtual page times 4,096 plus an offset. Its byte is at this offset of the physical page to which
+//! the virtual page is mapped.
+//!
+//! Contracts describe a store by its two public fields. They refer to bytes by address (`byte_of`, and the records
+//! `AreBacked` and `Saves` of `specs/Places.antt`), never by the pages that a range touches. Only `open` allocates.
 #![tactic(auto)]
 
 mod store;

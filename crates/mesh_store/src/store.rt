@@ -15,7 +15,7 @@ use std::alloc::{AllocError, Global};
 pub struct Store {
     /// The physical pages.
     pub arena: Arena,
-    /// The physical page of each virtual page.
+    /// The page map: the physical page and the protection of each mapped virtual page.
     pub map: PageMap,
 }
 
@@ -33,7 +33,7 @@ fn offset_of(addr: u32) -> u32
     addr % PAGE_BYTES as u32
 }
 
-/// How many of `len` bytes from an address on are in the page of the address.
+/// Returns how many of the `len` bytes from address `addr` on are in the virtual page of `addr`.
 fn len_in_page(addr: u32, len: usize) -> usize
     ensures short { result ≤ len }
     ensures inside { addr % 4096 + result ≤ 4096 }
@@ -91,7 +91,7 @@ fn save_run(arena: &mut Arena, map: &PageMap, addr: u32, bytes: &[u8])
 impl Store {
     /// Creates a store of `pages` free physical pages, from 1 to 4,096, with no virtual page mapped.
     ///
-    /// It allocates all the memory that it will ever use.
+    /// `open` allocates all memory that the store will ever use. Returns an error if an allocation fails.
     pub fn open(alloc: Global, pages: u32) -> Result<Store, AllocError>
         requires some { 1 ≤ pages }
         requires few { pages ≤ 4096 }
@@ -107,7 +107,7 @@ impl Store {
         Ok(Store { arena, map })
     }
 
-    /// Fills `out` with the bytes from an address on. `out` has 1 to 2,048 bytes.
+    /// Fills `out`, a slice of 1 to 2,048 bytes, with the bytes from address `addr` on.
     pub fn load(&self, addr: u32, out: &mut [u8])
         requires some { 1 ≤ length out.old }
         requires few { length out.old ≤ 2048 }
@@ -124,7 +124,7 @@ impl Store {
         }
     }
 
-    /// Whether a store to the range is blocked because one of its virtual pages is read-only.
+    /// Whether a store to the `len` bytes from address `addr` on is blocked: a virtual page of this range is read-only.
     pub fn blocked(&self, addr: u32, len: u32) -> bool
         requires some { 1 ≤ len }
         requires few { len ≤ 2048 }
@@ -136,7 +136,7 @@ impl Store {
         is_page_read_only(&self.map, vpage_of(addr)) || is_page_read_only(&self.map, vpage_of(last))
     }
 
-    /// Writes 1 to 2,048 bytes from an address on. A store there must not be blocked.
+    /// Writes `bytes`, a slice of 1 to 2,048 bytes, from address `addr` on. No page of this range may be read-only.
     pub fn save(&mut self, addr: u32, bytes: &[u8])
         requires some { 1 ≤ length bytes.now }
         requires few { length bytes.now ≤ 2048 }

@@ -4,18 +4,18 @@ use crate::text::Text;
 /// A rectangle.
 #[derive(Clone, Copy)]
 pub struct Area {
-    /// Its left side.
+    /// The position of the left side.
     pub x: u32,
-    /// Its upper side.
+    /// The position of the upper side.
     pub y: u32,
-    /// Its width.
+    /// The width of the rectangle.
     pub w: u32,
-    /// Its height.
+    /// The height of the rectangle.
     pub h: u32,
 }
 
 impl Area {
-    /// The area enlarged by `by` on each side.
+    /// Returns the area enlarged by `by` on each side.
     pub fn grown(self, by: u32) -> Area {
         Area {
             x: self.x.saturating_sub(by),
@@ -25,7 +25,7 @@ impl Area {
         }
     }
 
-    /// The area reduced by `by` on each side, with a width and a height of at least 6.
+    /// Returns the area reduced by `by` on each side. Its width and its height are at least 6.
     pub fn inset(self, by: u32) -> Area {
         Area {
             x: self.x.saturating_add(by),
@@ -35,19 +35,19 @@ impl Area {
         }
     }
 
-    /// The middle between its left and right side.
+    /// Returns the position of the middle between the left side and the right side.
     pub fn middle(self) -> u32 {
         self.x.saturating_add(self.w / 2)
     }
 
-    /// Its lower side.
+    /// Returns the position of the lower side.
     pub fn bottom(self) -> u32 {
         self.y.saturating_add(self.h)
     }
 }
 
-/// The style of an element: the name of a rule, which may be numbered, and the name of a second rule, which may be
-/// empty.
+/// The style of an element, by the names of one or two style rules. The first name can have a number. The second name
+/// is empty if there is only one rule.
 #[derive(Clone, Copy)]
 pub struct Look {
     name: &'static str,
@@ -56,7 +56,7 @@ pub struct Look {
 }
 
 impl Look {
-    /// One rule.
+    /// Returns the style of one rule.
     pub fn of(name: &'static str) -> Look {
         Look {
             name,
@@ -65,7 +65,7 @@ impl Look {
         }
     }
 
-    /// A rule of a numbered family.
+    /// Returns the style of one rule in a numbered family of rules.
     pub fn nth(name: &'static str, number: u32) -> Look {
         Look {
             name,
@@ -74,13 +74,13 @@ impl Look {
         }
     }
 
-    /// The same style with a second rule.
+    /// Returns this style with `also` as its second rule.
     pub fn with(self, also: &'static str) -> Look {
         Look { also, ..self }
     }
 }
 
-/// Adds ` name="number"`.
+/// Adds the attribute ` name="number"`.
 pub fn add_attribute(text: &mut Text, name: &str, number: u32) {
     text.add(b" ");
     text.add(name.as_bytes());
@@ -89,7 +89,7 @@ pub fn add_attribute(text: &mut Text, name: &str, number: u32) {
     text.add(b"\"");
 }
 
-/// Adds ` class=".."`.
+/// Adds the attribute ` class=".."` with the names of the rules.
 pub fn add_look(text: &mut Text, look: Look) {
     text.add(b" class=\"");
     text.add(look.name.as_bytes());
@@ -117,8 +117,8 @@ pub fn add_rect(text: &mut Text, look: Look, area: Area, round: u32) {
     text.add(b"/>\n");
 }
 
-/// Adds a line through points. Each point has the letter of its path command: `M` moves, `L` draws, `C` begins a curve
-/// of three points.
+/// Adds a path through points. Each point has the letter of its path command: `M` moves, `L` draws a line, and `C`
+/// begins a curve of three points.
 pub fn add_path(text: &mut Text, look: Look, points: &[(&'static str, u32, u32)]) {
     begin_path(text, look);
     for point in points {

@@ -5,8 +5,8 @@ use crate::text::Text;
 /// The default font of a file.
 pub const LETTERING: &str = "text{font-family:'DejaVu Sans',Verdana,Helvetica,Arial,sans-serif}";
 
-/// Adds the root element after `<svg`, with a title for readers who don't see the picture. Sizes are in tenths of a
-/// pixel.
+/// Adds the part of the root element after `<svg`, with a title for readers who don't see the picture. Sizes are in
+/// tenths of a pixel.
 pub fn add_root(text: &mut Text, title: &Text, width: u32, height: u32) {
     text.add(b" xmlns=\"http://www.w3.org/2000/svg\" role=\"img\"");
     add_attribute(text, "width", width / 10);
@@ -21,7 +21,7 @@ pub fn add_root(text: &mut Text, title: &Text, width: u32, height: u32) {
     text.add(b"</title>\n");
 }
 
-/// Adds the rules of the style, and those for a dark background.
+/// Adds the style rules, and the style rules for a dark background.
 pub fn add_style(text: &mut Text, rules: &[&[&str]], dark: &[&[&str]]) {
     text.add(b"<style>\n");
     for lines in rules {
@@ -34,7 +34,7 @@ pub fn add_style(text: &mut Text, rules: &[&[&str]], dark: &[&[&str]]) {
     text.add(b"}\n</style>\n");
 }
 
-/// Adds lines.
+/// Adds lines, each with a line end.
 pub fn add_lines(text: &mut Text, lines: &[&str]) {
     for line in lines {
         text.add(line.as_bytes());

@@ -14,7 +14,7 @@ pub enum Anchor {
 }
 
 impl Anchor {
-    /// Adds the attribute. Text that starts at its place needs none.
+    /// Adds the attribute of the anchor. `Start` needs no attribute.
     fn add(self, text: &mut Text) {
         match self {
             Anchor::Start => {}
@@ -31,9 +31,9 @@ pub struct Label {
     pub look: Look,
     /// The point of the text that is at the place.
     pub anchor: Anchor,
-    /// The place, from the left.
+    /// The horizontal position of the place, from the left.
     pub x: u32,
-    /// The baseline of the text.
+    /// The vertical position of the text's baseline, from the top.
     pub y: u32,
     /// The width of the text, or `None` for the natural width in the reader's font.
     pub width: Option<u32>,
@@ -56,7 +56,8 @@ impl Label {
         text.add(b"</text>\n");
     }
 
-    /// Adds the label with text that was built in a `Text`.
+    /// Adds the label with text that was built in a `Text`. If an allocation failed while that text grew, `text`
+    /// reports the failure too.
     pub fn add_text(self, text: &mut Text, words: &Text) {
         self.add(text, words.bytes());
         text.share_refusal(words);

@@ -1,4 +1,4 @@
-//! The text of a picture, as it grows.
+//! The growing text of a picture.
 ghost use Rattle.std.specs.Prelude.{◌≡◌, ◌⊎◌, [], Some, None, decimal, IfOk, OnErr};
 ghost use Rattle.std.specs.Option.{option_map};
 ghost use Rattle.mesh_svg.specs.Texts.{Adds, escaped, escaped_byte};
@@ -7,7 +7,7 @@ use itoa::Buffer;
 use std::alloc::{AllocError, Global};
 use std::marker::Model;
 
-/// A growing text. After an allocation failure it takes no more bytes, and `whole` returns the error.
+/// A growing text. After an allocation failure, no more bytes are added, and `whole` returns an error.
 #[derive(Drop)]
 pub struct Text {
     bytes: Vec<u8>,
@@ -25,7 +25,7 @@ impl Model for Text {
 }
 
 impl Text {
-    /// An empty text. It allocates nothing.
+    /// Returns an empty text, without an allocation.
     pub fn new(alloc: Global) -> Text
         ensures { result ≡ Some [] }
     {
@@ -35,7 +35,7 @@ impl Text {
         }
     }
 
-    /// Returns the whole text. An error means that an allocation failed while the text grew.
+    /// Returns the whole text. Returns an error if an allocation failed while the text grew.
     pub fn whole(&self) -> Result<&[u8], AllocError>
         ensures whole { IfOk result (λ bytes. self.now ≡ Some bytes.now) }
         ensures refused { OnErr result (self.now ≡ None) }
@@ -47,31 +47,31 @@ impl Text {
         }
     }
 
-    /// The number of bytes that it has.
+    /// Returns the number of bytes in the text.
     pub fn len(&self) -> usize {
         self.bytes.len()
     }
 
-    /// Removes all bytes. An earlier allocation failure is still reported.
+    /// Removes all bytes. `whole` still reports an earlier allocation failure.
     pub fn clear(&mut self)
         ensures { self.new ≡ option_map (λ held. []) self.old }
     {
         self.bytes.clear();
     }
 
-    /// The allocator of the text.
+    /// Returns the allocator of the text.
     pub fn alloc(&self) -> Global {
         *self.bytes.allocator()
     }
 
-    /// An empty text with the same allocator.
+    /// Returns an empty text with the same allocator.
     pub fn empty(&self) -> Text
         ensures { result ≡ Some [] }
     {
         Text::new(self.alloc())
     }
 
-    /// The bytes that it took.
+    /// Returns the bytes in the text, even if an allocation failed.
     pub fn bytes(&self) -> &[u8] {
         self.bytes.as_slice()
     }
@@ -93,7 +93,7 @@ impl Text {
         self.add(digits.format(number).as_bytes());
     }
 
-    /// Appends bytes, with the special characters of SVG escaped.
+    /// Appends bytes, with the special characters of SVG escaped. A control byte is written as a question mark.
     pub fn add_escaped(&mut self, words: &[u8])
         ensures { Adds self.old self.new (escaped words.now) }
     {
@@ -116,7 +116,7 @@ impl Text {
         }
     }
 
-    /// Takes over the allocation failure, if any, of another text whose bytes were appended.
+    /// Records the allocation failure of another text whose bytes were appended, if that text has one.
     pub fn share_refusal(&mut self, added: &Text)
         ensures refused { added.now ≡ None → self.new ≡ None }
         ensures kept { (self.new ≡ self.old) ⊎ (self.new ≡ None) }

@@ -1,6 +1,6 @@
 //! Tests of a book that threads share: behind a lock, and as scripts on threads that run next to meshers.
 //!
-//! The crate has no function of its own, so only its tests are proved.
+//! The crate has no function besides its tests and their helpers, so nothing else in it is proved.
 #![tactic(auto)]
 
 #[cfg(test)]

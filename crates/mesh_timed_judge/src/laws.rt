@@ -3,17 +3,19 @@ ghost use Rattle.mesh_timed_judge.specs.TimedLaws.{AllAreExplained, NoneExplains
 
 use mesh_configurations::Calls;
 
-/// Each call that is pending is one of the calls that a judge has followed.
+/// Each pending call of a judge is one of the calls that the judge has followed.
 pub fn open_calls_are_calls<O: Calls>()
     ensures { OpenCallsAreCalls O.effect }
 {}
 
-/// If some configuration is left and no call is pending, some order of effects explains the calls.
+/// If some configuration is left and no call is pending, some order of effects explains the calls that the judge has
+/// followed.
 pub fn all_are_explained<O: Calls>()
     ensures { AllAreExplained O.effect }
 {}
 
-/// If no configuration is left, no order of effects explains the calls, whatever calls begin later.
+/// If no configuration is left, no order of effects explains the calls that the judge has followed. The same holds with
+/// any further calls that begin after all ended calls have ended.
 pub fn none_explains<O: Calls>()
     ensures { NoneExplains O.effect }
 {}

@@ -1,7 +1,7 @@
-//! A judge of the overlapping calls of one object, in which the caller names calls by numbers of its own.
+//! A judge of the overlapping calls of one object, in which the caller gives each call a number.
 //!
-//! It is `mesh_configurations::Judge` with numbers instead of places. Its contract speaks of the moments at which calls
-//! begin and end, and of orders of calls.
+//! A `TimedJudge` is a `mesh_configurations::Judge` with numbers instead of places. Its contracts are about the moments
+//! at which calls begin and end, and about orders of calls.
 #![tactic(auto)]
 
 pub mod laws;

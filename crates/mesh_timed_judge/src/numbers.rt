@@ -2,14 +2,14 @@
 ghost use Rattle.std.specs.Prelude.{◌≡◌, ◌↔◌, ℕ, Some, IsTrue, MatchOption, slice_get};
 ghost use Rattle.mesh_configurations.specs.Placed.{none_taken};
 
-/// Returns places without numbers.
+/// Returns 64 places without numbers.
 pub fn no_numbers() -> [Option<u32>; 64]
     ensures { result ≡ none_taken }
 {
     [None; 64]
 }
 
-/// The place of a number. `None` if no place has it.
+/// Returns the first place that has this number. Returns `None` if no place has the number.
 pub fn place_of(numbers: &[Option<u32>; 64], number: u32) -> Option<usize>
     ensures { MatchOption result ((place : ℕ) → slice_get numbers.now place ≡ Some (Some number) → ⊥)
         (λ place. slice_get numbers.now place ≡ Some (Some number)) }

@@ -4,7 +4,7 @@ use mesh_configurations::Calls;
 use mesh_pool::Value;
 use std::alloc::{AllocError, Global};
 
-/// What the word holds.
+/// The value of the word.
 #[derive(Clone, Copy)]
 struct Word {
     value: u64,
@@ -22,7 +22,7 @@ impl Value for Word {
     }
 }
 
-/// A store of a value, or a load that found it.
+/// A store of a value, or a load that found the value.
 #[derive(Clone, Copy)]
 struct Access {
     stores: bool,
@@ -81,9 +81,13 @@ enum Event {
     Ends(u32),
 }
 
-/// Whether the last end left a configuration. At most `most` configurations may be met at an end. `None` if the judge
-/// returned an error, if a number that has a pending call begins, if one that has none ends, or if a call is still
-/// pending after the events.
+/// Whether some configuration was left after the last end. At most `most` configurations may be met at an end. Returns
+/// `None` in four cases:
+///
+/// - The judge returned an error.
+/// - A call begins under the number of a pending call.
+/// - A call ends under a number that no pending call has.
+/// - A call is still pending after the events.
 fn judged(alloc: Global, events: &[Event], most: usize) -> Option<bool> {
     let mut judge = TimedJudge::<Register>::new(alloc, Word { value: 0 }).ok()?;
     let mut some = true;

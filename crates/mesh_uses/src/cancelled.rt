@@ -3,8 +3,8 @@ use crate::faults::UseError;
 use crate::objects::{is_done, two_groups};
 use mesh::{Heap, class_of};
 
-/// Begins a mesh, cancels it after its first step, and unwinds it. After that its source can be written again. Returns
-/// how many steps the unwinding took.
+/// Begins a mesh, cancels it after its first step, and unwinds it. Then checks that a store to an object of the source
+/// isn't blocked. Returns the number of steps of the unwinding.
 pub(crate) fn cancel_a_mesh(heap: &mut Heap) -> Result<usize, UseError> {
     let class = class_of(2048)?;
     let objects = two_groups(heap)?;

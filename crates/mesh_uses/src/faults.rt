@@ -3,7 +3,7 @@ use mesh::{FinishError, NewFault, OpenError, Refusal};
 use std::alloc::{AllocError, AllocFailed};
 use thiserror::Error;
 
-/// Why a use failed.
+/// The reason why a use failed.
 #[derive(Debug, Drop, Error)]
 pub(crate) enum UseError {
     /// A call of the heap was refused.
@@ -12,10 +12,10 @@ pub(crate) enum UseError {
     /// An allocation failed.
     #[error("out of memory")]
     Memory,
-    /// Seats and journal made no history.
+    /// Seats and journal don't form a history.
     #[error("{0}")]
     Finish(#[from] FinishError),
-    /// A call had another answer than expected.
+    /// A call returned another answer than expected.
     #[error("another answer: {0}")]
     Answer(&'static str),
 }

@@ -22,7 +22,8 @@ pub(crate) fn keep_a_journal(book: &mut Book) -> Result<usize, UseError> {
     Ok(book.journal().len())
 }
 
-/// Performs a command of a worker.
+/// Performs a command of a worker. The error is Memory if an allocation fails, and Answer if the command is blocked or
+/// the journal is full.
 fn act(book: &mut Book, worker: u32, command: &Command) -> Result<(), UseError>
     requires { IsInRange command.now }
 {

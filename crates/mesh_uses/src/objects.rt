@@ -11,7 +11,7 @@ pub(crate) struct Objects {
     pub low: Ref,
 }
 
-/// Makes three objects of the class 2,048, of which the first two fill group 0, and frees the first.
+/// Makes three objects of 2,048 bytes, and frees the first. The first two fill group 0, and the third is in group 1.
 pub(crate) fn two_groups(heap: &mut Heap) -> Result<Objects, UseError> {
     let freed = make(heap)?;
     let high = make(heap)?;
@@ -20,7 +20,8 @@ pub(crate) fn two_groups(heap: &mut Heap) -> Result<Objects, UseError> {
     Ok(Objects { high, low })
 }
 
-/// Makes an object of 2,048 bytes, in the first free slot.
+/// Makes an object of 2,048 bytes, in the first free slot. The error is Answer if no serial is left, Refused if `new`
+/// is refused, and Memory if an allocation fails.
 fn make(heap: &mut Heap) -> Result<Ref, UseError> {
     if heap.is_full() {
         return Err(UseError::Answer("no serial is left"));
@@ -29,7 +30,7 @@ fn make(heap: &mut Heap) -> Result<Ref, UseError> {
     Ok(object)
 }
 
-/// Whether a store was done. `false` if it was blocked.
+/// Whether a store was done. `false` if the store was blocked. The error is Refused if the store was refused.
 pub(crate) fn is_done(stored: Stored) -> Result<bool, UseError> {
     match stored {
         Stored::Done => Ok(true),

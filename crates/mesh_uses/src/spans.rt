@@ -3,7 +3,8 @@ use crate::faults::UseError;
 use crate::objects::{Objects, two_groups};
 use mesh::{Heap, Ref};
 
-/// Makes and frees objects, meshes their two groups and reads the objects back. Returns how many pages became free.
+/// Makes two groups, stores into their objects, meshes the groups and reads the objects back. Returns the number of
+/// pages that became free.
 pub(crate) fn mesh_two_spans(heap: &mut Heap) -> Result<usize, UseError> {
     let Objects { high, low } = two_groups(heap)?;
     let _ = heap.write(high, 0, b"high".as_slice());

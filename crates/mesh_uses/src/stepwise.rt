@@ -3,8 +3,9 @@ use crate::faults::UseError;
 use crate::objects::{is_done, two_groups};
 use mesh::{Heap, class_of};
 
-/// Meshes two groups, and before each step tries to store into the object that is moved. Returns how many stores were
-/// blocked: those from the step that makes its page read-only to the one that makes it writable again.
+/// Meshes two groups, and before each step tries to store into the object that the mesh moves. Returns the number of
+/// blocked stores: those between the step that makes the object's page read-only and the step that makes the page
+/// writable again.
 pub(crate) fn store_between_steps(heap: &mut Heap) -> Result<usize, UseError> {
     let class = class_of(2048)?;
     let objects = two_groups(heap)?;

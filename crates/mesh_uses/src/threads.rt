@@ -5,7 +5,7 @@ use mesh::{Book, Command, Seat, Shared};
 use std::sync::Wait;
 use std::thread::{Threads, join};
 
-/// Runs two threads on one heap of 16 pages, and returns the length of their one history.
+/// Runs two threads on one heap of 16 pages, and returns the length of the one history of both.
 pub(crate) fn share<R: AllocGlobal + Threads + Wait + Sync>(rt: &R) -> Result<usize, UseError> {
     let alloc = rt.alloc();
     let book = Book::open(alloc, 16, 64)?;
@@ -34,7 +34,7 @@ fn served<R: AllocGlobal + Threads + Wait + Sync>(
     Ok(vec![in rt.alloc(); first, second]?)
 }
 
-/// One mutator's work, with an object that its cell names.
+/// Does one mutator's work: makes an object that `cell` names, stores two bytes in the object, and loads them.
 fn use_heap<R: Wait>(rt: &R, shared: &Shared, seat: &mut Seat, cell: u8) {
     let mut bytes = ArrayVec::new();
     bytes.push(b'h');

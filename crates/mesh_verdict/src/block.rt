@@ -1,4 +1,4 @@
-//! `Block`, the text of an outcome.
+//! `Block`, the text of an outcome or of a reply.
 ghost use Rattle.std.specs.Prelude.{◌≡◌, ◌++◌, [], IfOk, OnOk};
 ghost use Rattle.model_jobs.specs.Texts.{ended};
 
@@ -6,7 +6,8 @@ use mesh_pool::{Value, with_bytes};
 use std::alloc::{AllocError, Global};
 use std::marker::Model;
 
-/// The text of an outcome: a line, with its end, for each worker that has a reply.
+/// The text of an outcome: a line, with its end, for each worker that has a reply. In a pattern, a block is the text of
+/// one reply.
 #[derive(Drop)]
 pub struct Block {
     bytes: Vec<u8>,
@@ -21,7 +22,7 @@ impl Model for Block {
 }
 
 impl Block {
-    /// Returns a block without lines. It allocates nothing.
+    /// Returns a block without lines. Nothing is allocated.
     pub(crate) fn new(alloc: Global) -> Block
         ensures { result ≡ [] }
     {
@@ -37,7 +38,7 @@ impl Block {
         Block { bytes }
     }
 
-    /// Adds a line, and its end. An error is an allocation failure, here and below.
+    /// Appends a line and its end. An error is an allocation failure.
     pub(crate) fn add_line(&mut self, line: &[u8]) -> Result<(), AllocError>
         ensures { OnOk result (self.new ≡ self.old ++ ended line.now) }
     {
@@ -46,7 +47,7 @@ impl Block {
         Ok(())
     }
 
-    /// Returns a copy.
+    /// Returns a copy of the block. An error is an allocation failure.
     pub(crate) fn copied(&self) -> Result<Block, AllocError>
         ensures { IfOk result (λ copy. copy ≡ self.now) }
     {

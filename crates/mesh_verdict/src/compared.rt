@@ -1,4 +1,4 @@
-//! Two lists of blocks compared as sets.
+//! Compares two lists of blocks as sets.
 ghost use Rattle.std.specs.Prelude.{◌≡◌, ◌↔◌, ◌<◌, ℕ, List, Some, IfOk, OnOk, IsTrue, length, slice_get};
 ghost use Rattle.mesh_pool.specs.Pool.{IsAbsent};
 ghost use Rattle.mesh_reach.specs.Reach.{AreDistinct, IsKept};
@@ -8,8 +8,7 @@ use crate::block::Block;
 use mesh_pool::Pool;
 use std::alloc::{AllocError, Global};
 
-/// The blocks, each once. An error is an allocation failure, or that there are more than 2^32 blocks. The same holds
-/// below.
+/// Returns the blocks, each once. An error is an allocation failure, or that there are more than 2^32 blocks.
 pub(crate) fn pool_of(alloc: Global, blocks: &[Block]) -> Result<Pool<Block>, AllocError>
     ensures { IfOk result (λ pool. (x : List ℕ) → IsKept pool x ↔ IsKept blocks.now x) }
 {
@@ -21,7 +20,7 @@ pub(crate) fn pool_of(alloc: Global, blocks: &[Block]) -> Result<Pool<Block>, Al
     Ok(pool)
 }
 
-/// The blocks that are missing from the others, each once.
+/// Returns the blocks that `others` doesn't contain, each once. An error is an allocation failure.
 pub(crate) fn absent(
     alloc: Global,
     blocks: &Pool<Block>,
@@ -39,7 +38,8 @@ pub(crate) fn absent(
     Ok(absent)
 }
 
-/// The places of the blocks that are missing from the others, in order.
+/// Returns the places of the blocks that `others` doesn't contain, in ascending order. An error is an allocation
+/// failure.
 pub(crate) fn places_absent(
     alloc: Global,
     blocks: &[Block],
@@ -64,7 +64,7 @@ fn at(blocks: &[Block], place: usize) -> &Block
     &blocks[place]
 }
 
-/// Adds a block if it is missing from the others.
+/// Adds a block if `others` doesn't contain the block.
 fn add_absent(
     absent: &mut Vec<Block>,
     others: &Pool<Block>,
@@ -78,7 +78,7 @@ fn add_absent(
     Ok(())
 }
 
-/// Adds the place of a block if the block is missing from the others.
+/// Adds the place of a block if `others` doesn't contain the block.
 fn add_place(
     places: &mut Vec<usize>,
     others: &Pool<Block>,
@@ -93,7 +93,7 @@ fn add_place(
     Ok(())
 }
 
-/// Whether a block is missing from the others.
+/// Whether `others` doesn't contain a block.
 fn lacks(others: &Pool<Block>, block: &Block) -> bool
     ensures { IsTrue result ↔ IsAbsent others.now block.now }
 {

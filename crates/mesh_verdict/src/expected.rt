@@ -7,7 +7,7 @@ use crate::block::Block;
 use mesh_fields::lines::cut;
 use std::alloc::{AllocError, Global};
 
-/// The blocks that were read so far, and the one that is open.
+/// The blocks that were read so far, and the block that is still open.
 #[derive(Drop)]
 struct Read {
     done: Vec<Block>,
@@ -15,7 +15,7 @@ struct Read {
     alloc: Global,
 }
 
-/// The blocks of a text, in order. An error is an allocation failure, here and below.
+/// Returns the blocks of a text, in order. An error is an allocation failure.
 pub(crate) fn blocks(alloc: Global, text: &[u8]) -> Result<Vec<Block>, AllocError>
     ensures { IfOk result (λ blocks. blocks.items ≡ blocks_of text.now) }
 {

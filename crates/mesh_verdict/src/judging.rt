@@ -17,7 +17,7 @@ use std::alloc::{AllocError, Global};
 pub struct Verdict {
     /// The expected outcomes that are missing from the listing, each once.
     pub missing: Vec<Block>,
-    /// The places, in the listing's outcomes, of those that are not expected.
+    /// The places of the unexpected outcomes in the listing's outcomes.
     pub unexpected: Vec<usize>,
 }
 
@@ -27,7 +27,7 @@ impl Drop for Verdict {
 }
 
 impl Verdict {
-    /// Whether the outcomes are the expected ones.
+    /// Whether no outcome is missing and none is unexpected.
     pub fn is_as_expected(&self) -> bool
         ensures { IsTrue result ↔ IsClean self.now }
     {
@@ -36,7 +36,7 @@ impl Verdict {
 }
 
 /// Compares the outcomes of a listing with those that a text lists. An error is an allocation failure, or that there
-/// are more than 2^32 outcomes. The same holds below.
+/// are more than 2^32 outcomes.
 pub fn judged(
     alloc: Global,
     reached: &Reached<Explorer<'_>>,
@@ -91,7 +91,7 @@ pub(crate) fn outcome_at(outcomes: &[Outcome], at: usize) -> Outcome
     outcomes[at]
 }
 
-/// The text of the workers' replies at a place.
+/// Returns the text of the workers' replies in the state at a place. An error is an allocation failure.
 pub(crate) fn text_at(
     alloc: Global,
     states: &Explorer<'_>,

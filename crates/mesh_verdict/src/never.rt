@@ -15,8 +15,8 @@ use mesh_text::add_reply;
 use model_words::Reply;
 use std::alloc::{AllocError, Global};
 
-/// The place, in a listing's outcomes, of the first outcome that matches one of the patterns. `None` if there is no
-/// such outcome. An error is an allocation failure, here and below.
+/// Returns the place, in a listing's outcomes, of the first outcome that matches one of the patterns. `None` if there
+/// is no such outcome. An error is an allocation failure.
 pub fn first_match(
     alloc: Global,
     reached: &Reached<Explorer<'_>>,
@@ -40,7 +40,7 @@ pub fn first_match(
     Ok(None)
 }
 
-/// Whether the workers' replies at a place match one of the patterns.
+/// Whether the workers' replies in the state at a place match one of the patterns.
 fn matches_at(
     alloc: Global,
     states: &Explorer<'_>,
@@ -89,7 +89,7 @@ fn replies_of(told: &[Told], worker: usize) -> &[Reply]
     }
 }
 
-/// Whether there are as many replies as pieces, and each reply matches its piece.
+/// Whether the number of replies is the number of pieces, and each reply matches its piece.
 fn are_met(alloc: Global, pieces: &[Block], replies: &[Reply]) -> Result<bool, AllocError>
     ensures { IfOk result (λ is. is ≡ are_met pieces.now replies.now) }
 {
@@ -108,7 +108,7 @@ fn are_met(alloc: Global, pieces: &[Block], replies: &[Reply]) -> Result<bool, A
     Ok(replies.is_empty())
 }
 
-/// Whether the reply has the piece's text, or the piece is ` * `, which matches any reply.
+/// Whether the piece is the reply's text between two spaces, or is ` * `, which matches any reply.
 fn is_met(alloc: Global, piece: &[u8], reply: &Reply) -> Result<bool, AllocError>
     ensures { IfOk result (λ is. is ≡ is_met piece.now reply.now) }
 {

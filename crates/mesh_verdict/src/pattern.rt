@@ -1,4 +1,4 @@
-//! `Pattern`: the replies of a worker in an outcome that is forbidden.
+//! `Pattern`: the replies of a worker in a forbidden outcome.
 ghost use Rattle.std.specs.Prelude.{◌≡◌, None, Some, IfOk, MatchOption};
 ghost use Rattle.std.specs.List.{list_all};
 ghost use Rattle.model_jobs.specs.JobFiles.{number_in};
@@ -10,7 +10,7 @@ use mesh_fields::numbers::number32;
 use std::alloc::{AllocError, Global};
 use std::marker::Model;
 
-/// The replies of a worker: a fixed number of them, each with a given text or any.
+/// A pattern of a worker's replies: their number, and for each reply either a text or that any text matches.
 #[derive(Drop)]
 pub struct Pattern {
     worker: u32,
@@ -27,8 +27,8 @@ impl Model for Pattern {
 }
 
 impl Pattern {
-    /// The pattern that a text spells: `worker W: ANSWER | ANSWER ..`, with a worker from 0 to 63, at least one answer,
-    /// and `*` for any answer. `None` if the text spells no pattern. An error is an allocation failure, here and below.
+    /// Returns the pattern that a text spells: `worker W: ANSWER | ANSWER ..`, with a worker from 0 to 63, at least one
+    /// answer, and `*` for any answer. `None` if the text spells no pattern. An error is an allocation failure.
     pub fn spelt(alloc: Global, text: &[u8]) -> Result<Option<Pattern>, AllocError>
         ensures { IfOk result (λ pattern. pattern ≡ pattern_of text.now) }
     {
@@ -53,7 +53,7 @@ impl Pattern {
     }
 }
 
-/// The pattern in the text of a worker's number, a colon and the answers.
+/// Returns the pattern of a text that has a worker's number, a colon and the answers. `None` for any other text.
 fn of_sides(alloc: Global, text: &[u8]) -> Result<Option<Pattern>, AllocError>
     ensures { IfOk result (λ pattern. pattern ≡ sides_of text.now) }
 {
@@ -66,7 +66,7 @@ fn of_sides(alloc: Global, text: &[u8]) -> Result<Option<Pattern>, AllocError>
     of_number(alloc, number, answers)
 }
 
-/// The pattern of a worker's number and its answers.
+/// Returns the pattern of a worker's number and its answers. `None` if the number or an answer is malformed.
 fn of_number(alloc: Global, number: &[u8], answers: &[u8]) -> Result<Option<Pattern>, AllocError>
     ensures { IfOk result (λ pattern. pattern ≡ of_number (number_in 0 63 number.now) answers.now) }
 {
@@ -79,7 +79,7 @@ fn of_number(alloc: Global, number: &[u8], answers: &[u8]) -> Result<Option<Patt
     of_pieces(worker, pieces_of(alloc, padded.as_slice())?)
 }
 
-/// The pattern of a worker and its expected replies. `None` unless each reply is between two spaces.
+/// Returns the pattern of a worker and its expected replies. `None` if some piece isn't a text between two spaces.
 fn of_pieces(worker: u32, pieces: Vec<Block>) -> Result<Option<Pattern>, AllocError>
     ensures { IfOk result (λ pattern. pattern ≡ of_pieces worker pieces.items) }
 {
@@ -89,7 +89,7 @@ fn of_pieces(worker: u32, pieces: Vec<Block>) -> Result<Option<Pattern>, AllocEr
     Ok(Some(Pattern { worker, pieces }))
 }
 
-/// The text after `front`, if it begins with `front`.
+/// Returns the rest of a text that begins with `front`. `None` for any other text.
 fn behind<'a>(text: &'a [u8], front: &[u8]) -> Option<&'a [u8]>
     ensures { MatchOption result (behind front.now text.now ≡ None)
         (λ rest. behind front.now text.now ≡ Some rest.now) }
@@ -97,7 +97,7 @@ fn behind<'a>(text: &'a [u8], front: &[u8]) -> Option<&'a [u8]>
     text.strip_prefix(front)
 }
 
-/// The pieces of the text between the bars.
+/// Returns the pieces of the text that the bars separate.
 fn pieces_of(alloc: Global, answers: &[u8]) -> Result<Vec<Block>, AllocError>
     ensures { IfOk result (λ pieces. pieces.items ≡ pieces_of answers.now) }
 {
@@ -120,7 +120,7 @@ fn copy_of(alloc: Global, bytes: &[u8]) -> Result<Block, AllocError>
     Ok(Block::of(copy))
 }
 
-/// Whether each piece is something between two spaces.
+/// Whether each piece is a text of at least one byte between two spaces.
 fn are_pieces(pieces: &[Block]) -> bool
     ensures { result ≡ list_all is_piece pieces.now }
 {
@@ -132,7 +132,7 @@ fn are_pieces(pieces: &[Block]) -> bool
     true
 }
 
-/// Whether a piece is something between two spaces.
+/// Whether a piece is a text of at least one byte between two spaces.
 fn is_piece(piece: &[u8]) -> bool
     ensures { result ≡ is_piece piece.now }
 {

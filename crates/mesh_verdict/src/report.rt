@@ -12,8 +12,8 @@ pub(crate) struct Report {
     pub text: Vec<u8>,
 }
 
-/// The text of a verdict that fails: the outcomes that are missing, those that are unexpected, and the first that
-/// matches a pattern. An error is an allocation failure, here and below.
+/// Returns the text of a verdict that fails: the missing outcomes, the unexpected outcomes, and the first outcome that
+/// matches a pattern. An error is an allocation failure.
 pub(crate) fn fault_text(
     alloc: Global,
     reached: &Reached<Explorer<'_>>,
@@ -35,7 +35,7 @@ pub(crate) fn fault_text(
     Ok(text)
 }
 
-/// Appends a word's line, and then the lines of an outcome and of a plan that leads to it.
+/// Appends the line `word`, the lines of an outcome, and the lines of a plan with this outcome.
 fn add_outcome(
     alloc: Global,
     text: &mut Vec<u8>,

@@ -13,7 +13,7 @@ static JOB: &[u8] =
 static LISTED: &[u8] =
     b"interleavings 180 states 64\nworker 0 line 12: put 2 0 aa\n  done: before .. begun, unprotect 1 .. over\n  blocked: protect 1 .. remap 1\noutcome 0 of 136 interleavings\n  worker 0: done | bytes aa\n  worker 1: bytes aa\n  end: mesh 1:0 over\n  plan: run 0, run 0, run 1, begin 1 0, step, step, step, step, step, step\noutcome 1 of 44 interleavings\n  worker 0: done | bytes aa\n  worker 1: bytes 00\n  end: mesh 1:0 over\n  plan: run 1, run 0, run 0, begin 1 0, step, step, step, step, step, step\n";
 
-/// Whether the verdict is that nothing is wrong, and the text that is written.
+/// Whether the verdict finds nothing wrong, and the text that the verdict writes.
 fn verdict_of(
     rt: &(impl Abort + AllocGlobal),
     expected: Option<&[u8]>,
@@ -44,7 +44,7 @@ fn verdict_of(
     }
 }
 
-/// The pattern that a text spells.
+/// The pattern that a text spells, or `None` if the text spells no pattern.
 fn pattern(alloc: Global, text: &[u8]) -> Option<Pattern> {
     match Pattern::spelt(alloc, text) {
         Ok(pattern) => pattern,

@@ -1,10 +1,10 @@
 //! The program `meshrun`: a modelled heap that is compacted by meshing.
 //!
-//! - `meshrun replay FILE` runs the plan of a job file, and prints one answer line for each of its lines.
+//! - `meshrun replay FILE` runs the plan of a job file, and prints one answer line for each line of the plan.
 //! - `meshrun threads FILE ..` runs the scripts, each on a thread of its own, while other threads search and mesh, and
 //!   prints each worker's answers.
 //! - `meshrun draw FILE ..` draws a picture of the plan.
-//! - `meshrun explore FILE ..` runs what the plan leaves of the scripts in every interleaving with meshes, and prints
+//! - `meshrun explore FILE ..` runs the commands that the plan leaves, in every interleaving with meshes, and prints
 //!   all answers or a verdict.
 //! - `meshrun live ..` answers the lines of standard input one by one.
 //! - `meshrun check FILE` judges a recorded history.
@@ -133,8 +133,8 @@ fn run_on<R: Threads + Wait + Sync, I: Source + Drop, O: Sink + Drop, E: Sink + 
     }
 }
 
-/// Explores, and returns the exit status. Prints on standard error how many states were found, if it is a terminal or
-/// if the arguments ask for it.
+/// Explores, and returns the exit status. While it explores, prints the number of states found so far on standard
+/// error, if standard error is a terminal or the arguments ask for progress.
 fn explore<I: Source, O: Sink, E: Sink>(
     rt: &HostRuntime,
     args: &ExploreArgs<'_>,
@@ -166,7 +166,8 @@ fn criteria<'a>(expected: Option<&'a [u8]>, never: &'a [&'a str]) -> Criteria<'a
     Criteria { expected, never }
 }
 
-/// The text of the expected outcomes, if it is given. The error is the exit status if the text can't be read.
+/// Returns the text of the expected outcomes, or `None` if the arguments name no such text. If the text can't be read,
+/// the error is the exit status.
 fn expected(rt: &HostRuntime, args: &ExploreArgs<'_>) -> Result<Option<Vec<u8>>, u8> {
     let Told::Verdict(Some(path)) = args.told else {
         return Ok(None);

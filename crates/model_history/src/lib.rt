@@ -2,7 +2,7 @@
 //!
 //! The reference memory is called plain memory in the code.
 //!
-//! The crate contains definitions and proved lemmas about them, and no other code.
+//! The crate contains definitions and proved lemmas about these definitions, and no other code.
 #![tactic(auto)]
 
 pub mod recorded_laws;

@@ -1,21 +1,23 @@
-//! Laws of a job's run: its history is legal, and its pages are counted. Each is the contract of a function that does
-//! nothing.
+//! Laws of a job's run: its history is legal, and its pages are counted. Each law is the contract of a function that
+//! does nothing.
 ghost use Rattle.model_jobs.specs.JobLaws.{AnsweredIsStep, InitialIsRunning, AnswerKeepsRunning, LinesKeepRunning, HistoryIsLegal, RepliesAreRecorded, EntriesBeginScripts, JobsKeepCount, ReportsAddUp};
 
-/// If table and memory are sound and tied, a command gets an answer that the reference memory allows.
+/// If the table is sound and tied to the memory, the reference memory allows each command's answer and the memory after
+/// it.
 pub fn answered_is_step()
     ensures { AnsweredIsStep }
 {}
 
-/// A job's table and memory stay sound and tied, and its history legal.
+/// At the start of a job and after each line of its plan, the table is sound and tied to the memory, and the history is
+/// legal.
 pub fn jobs_keep_running()
     ensures initial_state { InitialIsRunning }
     ensures answer { AnswerKeepsRunning }
     ensures lines { LinesKeepRunning }
 {}
 
-/// The history of a job is legal after any lines of a plan. The replies in the plan's answers are those of its entries,
-/// in their order.
+/// The history of a job is legal after any lines of a plan. The replies that these lines answer are the replies of the
+/// history's entries, in the same order.
 pub fn history_is_legal()
     ensures legal { HistoryIsLegal }
     ensures replies { RepliesAreRecorded }
@@ -26,7 +28,8 @@ pub fn entries_begin_scripts()
     ensures { EntriesBeginScripts }
 {}
 
-/// A job's pages are counted after any lines of its plan, so the figures of a report add up.
+/// A job's pages are counted after any lines of its plan. In each report, the saved and the taken pages add up to the
+/// mapped pages.
 pub fn job_pages_are_counted()
     ensures jobs { JobsKeepCount }
     ensures reports { ReportsAddUp }

@@ -1,8 +1,8 @@
-//! Laws of the reader of jobs: whatever is read is the text of the result. Each is the contract of a function that does
-//! nothing.
+//! Laws of the reader of jobs: a text that is read as a job is the text of that job. Each law is the contract of a
+//! function that does nothing.
 ghost use Rattle.model_jobs.specs.ReaderLaws.{NumberIsSpelt, AddressIsSpelt, ByteIsSpelt, BytesAreSpelt, ClassIsSpelt, WordsAreSpelt, VersionIsSpelt, PagesAreSpelt, HistoryIsSpelt, WorkersAreSpelt, FirstWorkerIsSpelt, ScriptLineIsSpelt, PlanLineIsSpelt, LineIsInRange, ReadIsText, ExactlyTextsAreRead};
 
-/// Each field that is read is the only spelling of its number, which is in its range.
+/// If a field is read as a value, the field is the only spelling of that value, and the value is in its range.
 pub fn fields_are_spelt()
     ensures number { NumberIsSpelt }
     ensures address { AddressIsSpelt }
@@ -12,7 +12,7 @@ pub fn fields_are_spelt()
     ensures words { WordsAreSpelt }
 {}
 
-/// Each line that is accepted is the text of its result, in each section, and the numbers of a line of a plan are in
+/// In each section, a line that is accepted is the text of its result. The numbers of an accepted line of a plan are in
 /// their ranges.
 pub fn lines_are_spelt()
     ensures version { VersionIsSpelt }
@@ -25,8 +25,8 @@ pub fn lines_are_spelt()
     ensures ranges { LineIsInRange }
 {}
 
-/// A text that is read is the text of its job, whose numbers are in their ranges. Conversely each such text is read, if
-/// it isn't too long.
+/// A text is read as a job if and only if three conditions hold: it is the text of that job, the job's numbers are in
+/// their ranges, and the text has at most 1,048,576 bytes.
 pub fn read_is_text()
     ensures converse { ReadIsText }
     ensures exactly { ExactlyTextsAreRead }

@@ -1,8 +1,8 @@
-//! Laws of the refusals of commands over a table: exactly the lowest that holds is answered, and a command is blocked
-//! only if none holds. Each is the contract of a function that does nothing.
+//! Laws of the refusals of commands over a table. Each law is the contract of a function that does nothing.
 ghost use Rattle.model_jobs.specs.RefusalLaws.{AnswerIsLowest, HeldBackUnrefused};
 
-/// Each command over a table is refused with exactly the lowest refusal that holds.
+/// A command over a table is refused if and only if some refusal holds. The answer is then the lowest refusal that
+/// holds.
 pub fn answers_are_refused_by_lowest()
     ensures { AnswerIsLowest }
 {}

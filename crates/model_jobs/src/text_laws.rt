@@ -1,7 +1,8 @@
-//! Laws of the text of jobs: what is written is read back. Each is the contract of a function that does nothing.
+//! Laws of the text of jobs: the text of a job is read back as that job. Each law is the contract of a function that
+//! does nothing.
 ghost use Rattle.model_jobs.specs.TextLaws.{NumberReadsBack, AddressReadsBack, ByteReadsBack, BytesReadBack, CommandReadsBack, LineReadsBack, JobReadsBack};
 
-/// The text of each field is read back as its value.
+/// If a value is in its range, the text of its field is read back as the value.
 pub fn fields_read_back()
     ensures number { NumberReadsBack }
     ensures address { AddressReadsBack }
@@ -9,13 +10,15 @@ pub fn fields_read_back()
     ensures bytes { BytesReadBack }
 {}
 
-/// The text of each command and of each line of a plan is read back as that command or line.
+/// If the numbers of a command or of a line of a plan are in their ranges, its text is read back as that command or
+/// line.
 pub fn lines_read_back()
     ensures command { CommandReadsBack }
     ensures line { LineReadsBack }
 {}
 
-/// The text of a job whose numbers are in their ranges is read back as the job, if it isn't too long.
+/// If the numbers of a job are in their ranges and its text has at most 1,048,576 bytes, the text is read back as the
+/// job.
 pub fn job_reads_back()
     ensures { JobReadsBack }
 {}

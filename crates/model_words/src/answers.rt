@@ -1,14 +1,14 @@
-//! The answers of a call that makes no object, and of a step of a mesh. The heap and its table share them.
+//! Why a call makes no object, and what a step of a mesh answers. The heap and its table share these types.
 use crate::{Refusal, StepKind};
 use thiserror::Error;
 
-/// Why no object was made. Nothing has changed.
+/// The reason for which no object was made. The call has changed nothing.
 #[derive(Clone, Copy, Debug, PartialEq, Eq, Error)]
 pub enum NewFault {
     /// The call was refused.
     #[error("{0}")]
     Refused(Refusal),
-    /// Out of memory for a new span.
+    /// The memory allocation for a new span failed.
     #[error("out of memory")]
     Memory,
 }
@@ -24,11 +24,11 @@ impl From<Refusal> for NewFault {
     }
 }
 
-/// A step of a mesh that was made.
+/// The answer of a step of a mesh.
 #[derive(Clone, Copy, Debug, PartialEq, Eq)]
 pub struct StepDone {
-    /// Its kind.
+    /// The kind of the step.
     pub kind: StepKind,
-    /// How many steps are to come; 0 once the mesh is over.
+    /// The number of remaining steps. 0 if the mesh is over.
     pub left: u32,
 }

@@ -20,19 +20,19 @@ pub enum Command {
     Put(u8, u32, ArrayVec<u8, MAX_BYTES>),
     /// `Get(cell, off, len)`: load `len` bytes from offset `off` of the object that `cell` names.
     Get(u8, u32, u32),
-    /// `Free(cell)`: free the object that `cell` names. The cell keeps its reference, which is stale from then on.
+    /// `Free(cell)`: free the object that `cell` names. The cell keeps its reference, which is stale afterwards.
     Free(u8),
     /// `Alias(to, from)`: store in `to` the reference that `from` holds.
     Alias(u8, u8),
-    /// `Addr(cell)`: the address of the object that `cell` names.
+    /// `Addr(cell)`: return the address of the object that `cell` names.
     Addr(u8),
-    /// `Peek(addr)`: load the byte at an address.
+    /// `Peek(addr)`: load the byte at address `addr`.
     Peek(u32),
-    /// `Poke(addr, byte)`: store a byte at an address.
+    /// `Poke(addr, byte)`: store `byte` at address `addr`.
     Poke(u32, u8),
     /// `Copy(to, to_off, from, from_off, len)`: copy `len` bytes from offset `from_off` of the object that `from` names
-    /// to offset `to_off` of the object that `to` names. If the two ranges overlap, the bytes from before the copy are
-    /// copied.
+    /// to offset `to_off` of the object that `to` names. The two ranges may overlap: all bytes are read before any is
+    /// written.
     Copy(u8, u32, u8, u32, u32),
 }
 
@@ -68,7 +68,7 @@ impl Clone for Command {
     }
 }
 
-/// The answer that a mutator gets.
+/// The answer to a mutator's command.
 #[derive(Debug, Drop, PartialEq, Eq)]
 pub enum Reply {
     /// `Object(serial, addr)`: the object was made.
@@ -121,16 +121,17 @@ fn copied_bytes(bytes: &ArrayVec<u8, MAX_BYTES>) -> ArrayVec<u8, MAX_BYTES>
     copy
 }
 
-/// The kinds of step of a running mesh, in their order. The order is this project's own choice.
+/// The kinds of step of a running mesh, in the order in which the steps are made. The order is this project's own
+/// choice.
 #[derive(Clone, Copy, Debug, PartialEq, Eq)]
 pub enum StepKind {
     /// One virtual page of the source becomes read-only.
     Protect,
-    /// One slot's object is copied to the destination's physical pages.
+    /// The object in one slot of the source, if there is one, is copied to the destination's physical pages.
     Copy,
     /// One virtual page of the source is mapped to the destination's physical page of the same index.
     Remap,
-    /// One virtual page becomes writable.
+    /// One virtual page of the source becomes writable.
     Unprotect,
     /// One physical page of the source is returned to the arena.
     Release,

@@ -4,33 +4,33 @@ ghost use Rattle.model_words.specs.Faults.{kind_name_of};
 
 use thiserror::Error;
 
-/// What is wrong with a line of a job's text.
+/// The kind of a fault in a line of a job's text.
 ///
-/// The first line with a fault is reported, with the first kind of this list that holds for the line. The order is this
-/// project's own choice.
+/// Only the first line with a fault is reported. If several kinds apply to that line, the first of them in this list is
+/// reported. The order is this project's own choice.
 #[derive(Clone, Copy, Debug, PartialEq, Eq, Error)]
 #[error("{}", self.name())]
 pub enum FaultKind {
     /// The file has more than 1,048,576 bytes. The line is then 0.
     TooLong,
-    /// A byte follows the line end of `end`. The line is the one after `end`.
+    /// A byte follows the line end after `end`. The reported line is the line after `end`.
     Trailing,
-    /// The first 1,025 bytes of the line hold no line end.
+    /// The line is longer than 1,024 bytes.
     LongLine,
-    /// The input ends before the line's end, or at a place where a line must begin.
+    /// The input ends within a line, or before the line `end`.
     Cut,
-    /// A byte outside 20 to 7e.
+    /// A byte outside the range 0x20 to 0x7e.
     Byte,
     /// An empty field, a first field that isn't allowed in this place, or a wrong number of fields.
     Word,
-    /// A number or an address that is misspelt or out of range.
+    /// A number or an address that is misspelt or out of its range.
     Number,
     /// Bytes that are misspelt or have a wrong length.
     Hex,
 }
 
 impl FaultKind {
-    /// The name that a fault line prints, in upper case.
+    /// Returns the name that a fault line prints, in upper case.
     pub fn name(self) -> &'static str
         ensures { result.now ≡ kind_name_of self }
     {
@@ -51,8 +51,8 @@ impl FaultKind {
 #[derive(Clone, Copy, Debug, PartialEq, Eq, Error)]
 #[error("line {line}: {kind}")]
 pub struct TextFault {
-    /// The line's number, from 1, or 0 if the whole file is too long.
+    /// The number of the line, from 1. 0 if the whole file is too long.
     pub line: u32,
-    /// What is wrong with the line.
+    /// The kind of the fault.
     pub kind: FaultKind,
 }

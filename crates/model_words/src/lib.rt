@@ -1,6 +1,7 @@
 //! The words that every layer of Mesh shares: commands, answers, refusals, faults, and the size classes.
 //!
-//! Also how a chain of steps is refused: with the refusal of the first step that is refused.
+//! The crate also defines how steps that can be refused are chained: the first refused step ends the chain with its
+//! refusal.
 #![tactic(auto)]
 
 mod answers;

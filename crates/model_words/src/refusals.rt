@@ -25,7 +25,7 @@ const REFUSAL_NAMES: [&str; 17] = [
     "NOT_EMPTY",
 ];
 
-/// Why a call was refused. A refused call changes nothing in the heap and the roots.
+/// The reason for which a call was refused. A refused call changes nothing in the heap and the root cells.
 ///
 /// If several refusals hold for one call, the refusal with the lowest number is the answer. Numbers and names are this
 /// project's own choice.
@@ -36,40 +36,43 @@ pub enum Refusal {
     Zero,
     /// `new`: the length is above 2,048.
     TooLarge,
-    /// `new`: no open group has a free slot, and the arena has too few free pages for a new span.
+    /// `new`: each group of the class is full or in a running mesh, and the arena has too few free pages for a new
+    /// span.
     NoPages,
-    /// `new`: no open group has a free slot, and too few virtual pages are left that were never used.
+    /// `new`: each group of the class is full or in a running mesh, and too few virtual pages remain that were never
+    /// used.
     NoAddresses,
     /// The root cell holds no reference.
     Empty,
     /// The object that the reference names is no longer live.
     Freed,
-    /// Offset and length together are above the object's length.
+    /// The sum of offset and length is above the object's length.
     Outside,
-    /// `peek`, `poke`: the address is in no live object's range.
+    /// `peek`, `poke`: the address is in the range of no live object.
     Stray,
-    /// No group has the number now.
+    /// No group has this number now.
     NoGroup,
     /// Source and destination are one group.
     Same,
     /// The two groups have different size classes.
     Class,
-    /// A mesh is running, or the group is in one.
+    /// `begin`, `whole`: a mesh is running. In `mesh 2`: a mesh of the same class is running. `sweep`: the group is in
+    /// a running mesh.
     Busy,
-    /// The two groups have an occupied slot number in common.
+    /// Some slot number is occupied in both groups.
     Overlap,
-    /// The two groups have more than eight members together.
+    /// The two groups together have more than eight members.
     Members,
-    /// No mesh is running.
+    /// `step`, `cancel`: no mesh is running. In `mesh 2`: no mesh of the named class is running.
     NoMesh,
-    /// `cancel`: the first remap was made.
+    /// `cancel`: the mesh has made its first remap.
     TooLate,
     /// `sweep`: the group has an object.
     NotEmpty,
 }
 
 impl Refusal {
-    /// The number, 1 to 17, that answer lines print.
+    /// Returns the number, 1 to 17, that answer lines print.
     pub fn number(self) -> u8
         ensures value { result ≡ number_of self }
         ensures first { 1 ≤ result }
@@ -96,7 +99,7 @@ impl Refusal {
         }
     }
 
-    /// The name that answer lines print, in upper case.
+    /// Returns the name that answer lines print, in upper case.
     pub fn name(self) -> &'static str
         ensures { result.now ≡ name_of self }
     {

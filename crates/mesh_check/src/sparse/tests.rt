@@ -4,7 +4,7 @@ ghost use Rattle.std.specs.Prelude.{◌≡◌, ◌+◌, ◌≤◌, length};
 use super::SparseBytes;
 use std::process::Abort;
 
-/// Asserts that the bytes from an offset on are these.
+/// Asserts that these bytes begin at offset `start`.
 fn holds<R: Abort>(rt: &R, all: &SparseBytes, start: u64, bytes: &[u8])
     requires fits { start + length bytes.now ≤ length all.now }
     requires few { length bytes.now ≤ 32 }
@@ -16,7 +16,7 @@ fn holds<R: Abort>(rt: &R, all: &SparseBytes, start: u64, bytes: &[u8])
     );
 }
 
-/// Stores bytes from an offset on, for the entry on a line.
+/// Stores bytes from offset `start`, for the entry on a line.
 fn stores<R: Abort>(rt: &R, all: &mut SparseBytes, start: u64, bytes: &[u8], line: u32)
     requires fits { start + length bytes.now ≤ length all.old }
     requires few { length bytes.now ≤ 32 }
@@ -25,7 +25,7 @@ fn stores<R: Abort>(rt: &R, all: &mut SparseBytes, start: u64, bytes: &[u8], lin
     assert!(rt; all.store(start, bytes, line).is_ok(), "from {start} on");
 }
 
-/// Asserts that the bytes from an offset on were last stored by these lines, where 0 means none.
+/// Asserts which lines last stored the bytes from offset `start`, with 0 for a byte that was never stored.
 fn stored_by<R: Abort>(rt: &R, all: &SparseBytes, start: u64, lines: &[u32]) {
     for (place, line) in lines.iter().enumerate() {
         let off = start.saturating_add(place as u64);
@@ -33,7 +33,7 @@ fn stored_by<R: Abort>(rt: &R, all: &SparseBytes, start: u64, lines: &[u32]) {
     }
 }
 
-/// Asserts how many chunks are kept.
+/// Asserts the number of chunks that are kept.
 fn keeps<R: Abort>(rt: &R, all: &SparseBytes, chunks: usize) {
     assert_eq!(rt; all.chunks.len(), chunks);
 }
@@ -63,7 +63,7 @@ fn bytes_are_stored_across_the_border_of_two_chunks(rt: HostRuntime) {
 
 /// Stores and loads the last byte of an object of `len` bytes, and asserts that one chunk is then kept.
 ///
-/// The length is an argument, because a proof would expand all the zeros of a length that is a constant in the code.
+/// The length is an argument because, with a constant length, a proof would expand all the zeros.
 fn last_byte_takes_one_chunk<R: AllocGlobal + Abort>(rt: &R, len: u64)
     requires { 4 ≤ len }
 {

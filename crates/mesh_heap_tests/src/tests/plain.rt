@@ -5,7 +5,7 @@ use mesh_plain::{Plain, PlainFault};
 use model_words::{Command, MAX_BYTES, Refusal, Reply};
 use std::process::Abort;
 
-/// A call of the reference memory. A cell names an object.
+/// A call of the reference memory. A call names an object by a cell.
 #[derive(Clone, Copy)]
 enum PlainCall {
     // Of a length, at an address.
@@ -56,12 +56,12 @@ type Told = (&'static str, [u64; 2]);
 /// The answer of a call that is done.
 const DONE: Told = ("Done", [0; 2]);
 
-/// An answer of one number.
+/// An answer that consists of a name and one number.
 fn counted(name: &'static str, count: u32) -> Told {
     (name, [u64::from(count), 0])
 }
 
-/// The length of bytes, and the number whose last digits in base 256 they are.
+/// The answer of a load: the number of bytes, and the bytes as a big-endian number.
 fn loaded(len: usize, number: u64) -> Told {
     ("Bytes", [len as u64, number])
 }
@@ -100,7 +100,7 @@ fn answer_of(rt: &impl Abort, plain: &mut Plain, call: PlainCall) -> Told {
     }
 }
 
-/// A result of one number in the form of an answer.
+/// Returns a call's result, a number or a fault, in the form that is compared.
 fn told(name: &'static str, answer: Result<u32, PlainFault>) -> Told {
     match answer {
         Ok(number) => counted(name, number),
@@ -108,7 +108,7 @@ fn told(name: &'static str, answer: Result<u32, PlainFault>) -> Told {
     }
 }
 
-/// A result without a value in the form of an answer.
+/// Returns a call's result, nothing or a fault, in the form that is compared.
 fn done(answer: Result<(), PlainFault>) -> Told {
     match answer {
         Ok(()) => DONE,
@@ -116,7 +116,7 @@ fn done(answer: Result<(), PlainFault>) -> Told {
     }
 }
 
-/// The byte at an address in the form of an answer.
+/// Returns the result of a `peek` in the form that is compared.
 fn peeked(answer: Result<u8, PlainFault>) -> Told {
     match answer {
         Ok(byte) => counted("Byte", byte as u32),
@@ -124,7 +124,7 @@ fn peeked(answer: Result<u8, PlainFault>) -> Told {
     }
 }
 
-/// Loaded bytes in the form of an answer.
+/// Returns the result of a `get` in the form that is compared.
 fn got(answer: Result<ArrayVec<u8, MAX_BYTES>, PlainFault>) -> Told {
     match answer {
         Ok(bytes) => loaded(bytes.len(), number(bytes.as_slice())),
@@ -132,44 +132,44 @@ fn got(answer: Result<ArrayVec<u8, MAX_BYTES>, PlainFault>) -> Told {
     }
 }
 
-/// The number whose last eight digits in base 256 are the last bytes.
+/// Returns the last eight bytes as a big-endian number.
 fn number(bytes: &[u8]) -> u64 {
     bytes
         .iter()
         .fold(0, |number, byte| (number << 8) | u64::from(*byte))
 }
 
-/// Asserts that calls are answered as expected, in order.
+/// Asserts that a memory answers each of these calls as expected, in order.
 fn play(rt: &impl Abort, plain: &mut Plain, calls: &[(PlainCall, PlainAnswer)]) {
     for (place, (call, wanted)) in calls.iter().enumerate() {
         check(rt, answer_of(rt, plain, *call), wanted.told(), place);
     }
 }
 
-/// Asserts that the call at a place was answered as expected.
+/// Asserts that the answer to the call at a place is the expected one.
 fn check(rt: &impl Abort, told: Told, wanted: Told, place: usize) {
     assert_eq!(rt; told, wanted, "call {place}");
 }
 
-/// Asserts that a fresh memory answers calls as expected, in order.
+/// Asserts that a fresh memory answers each of these calls as expected, in order.
 fn played(rt: &(impl Abort + AllocGlobal), calls: &[(PlainCall, PlainAnswer)]) {
     let mut plain = Plain::new(rt.alloc());
     play(rt, &mut plain, calls);
 }
 
-/// Asserts that a memory with the two objects answers calls as expected, in order.
+/// Asserts that a fresh memory answers each of these calls as expected once it has the two objects of `TWO_OBJECTS`.
 fn played_on_two(rt: &(impl Abort + AllocGlobal), calls: &[(PlainCall, PlainAnswer)]) {
     let mut plain = Plain::new(rt.alloc());
     play_on_two(rt, &mut plain, calls);
 }
 
-/// Asserts that a fresh memory answers calls as expected once it has the two objects.
+/// Makes the two objects of `TWO_OBJECTS` in a fresh memory, and asserts that it then answers each call as expected.
 fn play_on_two(rt: &impl Abort, plain: &mut Plain, calls: &[(PlainCall, PlainAnswer)]) {
     play(rt, plain, &TWO_OBJECTS);
     play(rt, plain, calls);
 }
 
-/// Cell 0 names 8 bytes at 0x1000, and cell 1 names 4 bytes at 0x1010. The bytes are 1 to 8, and 9 to 12.
+/// Calls that make two objects: cell 0 names the bytes 1 to 8 at 0x1000, cell 1 names the bytes 9 to 12 at 0x1010.
 static TWO_OBJECTS: [(PlainCall, PlainAnswer); 4] = [
     (PlainCall::Make(0, 8, 0x1000), PlainAnswer::Made(0)),
     (PlainCall::Make(1, 4, 0x1010), PlainAnswer::Made(1)),
@@ -180,7 +180,7 @@ static TWO_OBJECTS: [(PlainCall, PlainAnswer); 4] = [
     (PlainCall::Put(1, 0, &[9, 10, 11, 12]), PlainAnswer::Done),
 ];
 
-/// A new object in the last cell.
+/// A new object in the last cell, and a read of its zeros.
 static ZEROS: [(PlainCall, PlainAnswer); 2] = [
     (PlainCall::Make(255, 3, 0x1000), PlainAnswer::Made(0)),
     (PlainCall::Get(255, 0, 3), PlainAnswer::Bytes(3, 0)),
@@ -191,7 +191,7 @@ fn a_new_object_is_of_zeros(rt: HostRuntime) {
     played(&rt, &ZEROS);
 }
 
-/// A store, and the contents of both objects after it.
+/// A store, and reads of both objects after it.
 static STORED: [(PlainCall, PlainAnswer); 3] = [
     (PlainCall::Put(0, 6, &[20, 21]), PlainAnswer::Done),
     (
@@ -206,7 +206,7 @@ fn bytes_are_stored_and_loaded(rt: HostRuntime) {
     played_on_two(&rt, &STORED);
 }
 
-/// Copies within one object, whose ranges overlap, and from one object to another.
+/// Copies with overlapping ranges within one object, and a copy from one object to another.
 static COPIED: [(PlainCall, PlainAnswer); 7] = [
     (PlainCall::Copy(0, 2, 0, 0, 5), PlainAnswer::Done),
     (
@@ -231,7 +231,7 @@ fn bytes_are_copied_whole_before_one_is_stored(rt: HostRuntime) {
     played_on_two(&rt, &COPIED);
 }
 
-/// Addresses inside the objects and outside them.
+/// Loads and stores at addresses inside and outside the objects.
 static ADDRESSES: [(PlainCall, PlainAnswer); 8] = [
     (PlainCall::Addr(1), PlainAnswer::At(0x1010)),
     (PlainCall::Peek(0x1000), PlainAnswer::Byte(1)),
@@ -257,7 +257,7 @@ fn addresses_lead_to_bytes(rt: HostRuntime) {
     played_on_two(&rt, &ADDRESSES);
 }
 
-/// An object that two cells name, before it is freed and after.
+/// Calls on an object that two cells name, before it is freed and after.
 static FREED: [(PlainCall, PlainAnswer); 8] = [
     (PlainCall::Alias(9, 0), PlainAnswer::Done),
     (
@@ -283,7 +283,7 @@ fn a_freed_object_is_gone_from_each_cell(rt: HostRuntime) {
     played_on_two(&rt, &FREED);
 }
 
-/// Calls that have one fault or two.
+/// Calls with one fault, and calls with two faults, of which the first counts.
 static FAULTS: [(PlainCall, PlainAnswer); 10] = [
     (
         PlainCall::Put(0, 7, &[0, 0]),
@@ -326,13 +326,13 @@ fn faults_come_in_their_order(rt: HostRuntime) {
     played_on_two(&rt, &FAULTS);
 }
 
-/// Applies an entry of a journal.
+/// Applies an entry of a journal to a memory. Asserts that the memory accepts the entry.
 fn apply(rt: &impl Abort, plain: &mut Plain, command: &Command, reply: &Reply) {
     assert!(rt; plain.next_serial() < u32::MAX);
     assert!(rt; plain.apply(command, reply).is_ok());
 }
 
-/// Applies the commands of a journal, after which cell 4 names two bytes.
+/// Applies a journal to a memory. Afterwards cell 4 names an object of two bytes.
 fn apply_entries(rt: &impl Abort, plain: &mut Plain) {
     let mut bytes = ArrayVec::new();
     bytes.push(5);
@@ -350,7 +350,7 @@ fn apply_entries(rt: &impl Abort, plain: &mut Plain) {
     }
 }
 
-/// Asserts that a read is answered as expected.
+/// Asserts that a memory answers a read as expected.
 fn check_look(rt: &impl Abort, plain: &Plain, read: PlainCall, wanted: &Reply) {
     let reply = match read {
         PlainCall::Peek(address) => plain.look(&Command::Peek(address)),
@@ -363,7 +363,7 @@ fn check_look(rt: &impl Abort, plain: &Plain, read: PlainCall, wanted: &Reply) {
     assert!(rt; reply == *wanted, "another reply");
 }
 
-/// Asserts what is read after the journal's commands, and after one more.
+/// Asserts the answers to reads after the journal is applied, and again after one more command.
 fn check_applied(rt: &impl Abort, plain: &mut Plain) {
     apply_entries(rt, plain);
     play(
@@ -378,7 +378,7 @@ fn check_applied(rt: &impl Abort, plain: &mut Plain) {
     check_refusal(rt, plain, PlainCall::Addr(3), Refusal::Freed);
 }
 
-/// Asserts that a read is refused as expected.
+/// Asserts that a memory refuses a read with this refusal.
 fn check_refusal(rt: &impl Abort, plain: &Plain, read: PlainCall, refusal: Refusal) {
     check_look(rt, plain, read, &Reply::Refused(refusal));
 }

@@ -1,5 +1,4 @@
-//! Tests of the search for pairs: worked views and searches, and searches by workers compared with searches on one
-//! thread.
+//! Tests of the search for pairs: worked examples, and searches by workers compared with searches on one thread.
 
 mod indexes;
 mod numbers;

@@ -1,5 +1,5 @@
-//! A mesher's calls on a book, which are its heap's own. None of them is recorded, and the journal still ends in what
-//! heap and roots mean.
+//! A mesher's calls on a book. Each is the call of the same name on the book's heap. No call is recorded, and the
+//! journal still ends in the reference memory that heap and roots represent.
 ghost use Rattle.std.specs.Prelude.{◌≡◌, length, IfOk};
 ghost use Rattle.std.specs.Option.{option_map};
 ghost use Rattle.model_heap.specs.Mesh.{any_mesh, begin, cancel, first_mesh, mesh_in, mesh_of_class, mesh_whole, step};
@@ -19,24 +19,25 @@ use model_words::Refusal;
 use std::alloc::{AllocError, Global};
 
 impl Book {
-    /// The groups of each class that may be paired, classes ascending by size. An error is an allocation failure.
+    /// Returns the candidates of each class (the groups that a search may pair), with the classes in ascending order of
+    /// size. Returns an error if an allocation fails.
     pub fn views(&self, alloc: Global) -> Result<Vec<ClassView>, AllocError>
         ensures { IfOk result (λ list. list.items ≡ views (table_of_book self.now)) }
     {
         self.heap.views(alloc)
     }
 
-    /// The groups of one class that may be paired. An error is an allocation failure.
+    /// Returns the candidates of one class: the groups that a search may pair. Returns an error if an allocation fails.
     pub fn view(&self, alloc: Global, class: Class) -> Result<ClassView, AllocError>
         ensures { IfOk result (λ view. view ≡ view_of (table_of_book self.now) class) }
     {
         self.heap.view(alloc, class)
     }
 
-    /// Begins a mesh of the group `source` into the group `destination`, and answers how many steps are to come.
+    /// Begins a mesh of the group `source` into the group `destination`, and returns the number of its steps.
     ///
-    /// Refused with NO_GROUP, SAME, CLASS, BUSY if a mesh of their class runs, OVERLAP or MEMBERS, the first that
-    /// holds.
+    /// The error is the first of NO_GROUP, SAME, CLASS, BUSY (a mesh of the groups' class runs), OVERLAP and MEMBERS
+    /// that applies.
     pub fn begin(&mut self, source: u32, destination: u32) -> Result<u32, Refusal>
         ensures { IsAnswered KeepsBook self.old self.new
             (begin mesh_of_class (table_of_book self.old) source destination) result
@@ -45,7 +46,7 @@ impl Book {
         self.heap.begin(source, destination)
     }
 
-    /// Makes the next step of the mesh of a class. Refused with NO_MESH if and only if no mesh of the class runs.
+    /// Makes the next step of the mesh of a class. The error is NO_MESH if and only if no mesh of the class runs.
     pub fn step(&mut self, class: Class) -> Result<StepDone, Refusal>
         ensures { IsAnswered KeepsBook self.old self.new
             (step (table_of_book self.old) (mesh_in (table_of_book self.old) class)) result
@@ -54,10 +55,10 @@ impl Book {
         self.heap.step(class)
     }
 
-    /// Cancels the mesh of a class before its first remap, and answers how many unprotects are to come. If there are
-    /// none, the mesh is over. A further cancel answers how many are left then, and changes nothing.
+    /// Cancels the mesh of a class before its first remap, and returns the number of unprotect steps to come. If this
+    /// number is 0, the mesh is over. A further cancel returns the number of unprotect steps left, and changes nothing.
     ///
-    /// Refused with NO_MESH if no mesh of the class runs, and with TOO_LATE once a page was remapped.
+    /// The error is NO_MESH if no mesh of the class runs, and TOO_LATE if a page was already remapped.
     pub fn cancel(&mut self, class: Class) -> Result<u32, Refusal>
         ensures { IsAnswered KeepsBook self.old self.new
             (cancel (table_of_book self.old) (mesh_in (table_of_book self.old) class)) result
@@ -66,8 +67,8 @@ impl Book {
         self.heap.cancel(class)
     }
 
-    /// Meshes two groups by `begin` and all its steps, and answers how many physical pages became free. Refused as
-    /// `begin` is.
+    /// Begins a mesh, makes all its steps, and returns the number of freed physical pages. The errors are those of
+    /// `begin`.
     pub fn mesh_whole(&mut self, source: u32, destination: u32) -> Result<u32, Refusal>
         ensures { IsAnswered KeepsBook self.old self.new
             (mesh_whole mesh_of_class (table_of_book self.old) source destination) result
@@ -76,9 +77,9 @@ impl Book {
         self.heap.mesh_whole(source, destination)
     }
 
-    /// Frees an empty group's pages, and answers how many physical pages became free.
+    /// Frees the pages of an empty group, and returns the number of freed physical pages.
     ///
-    /// Refused with NO_GROUP, BUSY if the group is in a mesh, or NOT_EMPTY, the first that holds.
+    /// The error is the first of NO_GROUP, BUSY (the group is in a mesh) and NOT_EMPTY that applies.
     pub fn sweep(&mut self, group: u32) -> Result<u32, Refusal>
         ensures { IsAnswered KeepsBook self.old self.new (sweep (table_of_book self.old) group) result
             (IsSwept self.old.heap self.new.heap group) }
@@ -86,7 +87,7 @@ impl Book {
         self.heap.sweep(group)
     }
 
-    /// Begins a mesh as `begin` does, but is refused with BUSY if a mesh of any class runs.
+    /// Begins a mesh as `begin` does, except that BUSY applies if a mesh of any class runs.
     pub fn begin_alone(&mut self, source: u32, destination: u32) -> Result<u32, Refusal>
         ensures { IsAnswered KeepsBook self.old self.new
             (begin any_mesh (table_of_book self.old) source destination) result
@@ -95,7 +96,7 @@ impl Book {
         self.heap.begin_alone(source, destination)
     }
 
-    /// Meshes two groups as `mesh_whole` does, but is refused with BUSY if a mesh of any class runs.
+    /// Meshes two groups as `mesh_whole` does, except that BUSY applies if a mesh of any class runs.
     pub fn whole_alone(&mut self, source: u32, destination: u32) -> Result<u32, Refusal>
         ensures { IsAnswered KeepsBook self.old self.new
             (mesh_whole any_mesh (table_of_book self.old) source destination) result

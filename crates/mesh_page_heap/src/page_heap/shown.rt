@@ -1,4 +1,4 @@
-//! Queries of a page heap, without effect.
+//! Queries of a page heap without side effects.
 ghost use Rattle.std.specs.Prelude.{◌≡◌, ◌<◌, ◌≤◌, IfSome, slice_get};
 ghost use Rattle.mesh_arena.specs.Pages.{is_taken};
 ghost use Rattle.model_heap.specs.Table.{group_of};
@@ -23,8 +23,8 @@ impl PageHeap {
         self.next_page
     }
 
-    /// The first virtual page of the member at a place of a group. `None` only if the number is no group, or the group
-    /// has no member there.
+    /// Returns the first virtual page of the member at index `place` of group `n`. Returns `None` if no group has the
+    /// number `n`, or the group has no member at this index.
     pub fn member(&self, n: u32, place: usize) -> Option<u32>
         ensures value { result ≡ member_at (group_of (table_in self.now) n) place }
         ensures range { IfSome result (λ first. (1 ≤ first) × (first < 65536)) }
@@ -34,8 +34,8 @@ impl PageHeap {
         Some(self.spans.first_page(span))
     }
 
-    /// The serial and the length, in bytes, of the object that the member at a place of a group has in a slot. `None`
-    /// only if there is no such object.
+    /// Returns the serial and the length, in bytes, of the object that a member of group `n` has in a slot. The member
+    /// is the one at index `place`. Returns `None` if there is no such object.
     pub fn object(&self, n: u32, place: usize, slot: u32) -> Option<(u32, u32)>
         ensures { result ≡ object_at (group_of (table_in self.now) n) place slot }
     {
@@ -44,8 +44,8 @@ impl PageHeap {
         self.spans.record(span, Slot::numbered(slot))
     }
 
-    /// The physical page at a place of a group's pages. `None` only if the number is no group, or the group has no page
-    /// there.
+    /// Returns the physical page at index `place` in the list of group `n`'s pages. Returns `None` if no group has the
+    /// number `n`, or the list has no such index.
     pub fn home(&self, n: u32, place: usize) -> Option<u32>
         ensures { result ≡ home_at self.now.index n place }
     {
@@ -54,7 +54,7 @@ impl PageHeap {
         Some(page.number())
     }
 
-    /// The mapping of a virtual page. `None` only if it isn't mapped.
+    /// Returns the mapping of a virtual page, or `None` if the page isn't mapped.
     pub fn lead(&self, v: u32) -> Option<Mapping>
         requires { 1 ≤ v }
         ensures { result ≡ lead_at self.now.map v }
@@ -77,8 +77,8 @@ impl PageHeap {
         self.store.arena.is_taken(page)
     }
 
-    /// How many of a group's physical pages a mesh from it has freed. 0 if the number is no group, or if no mesh from
-    /// it runs.
+    /// Returns how many physical pages of group `n` were freed by the running mesh that has this group as its source.
+    /// Returns 0 if no group has the number `n`, or if no such mesh runs.
     pub fn released(&self, n: u32) -> u32
         ensures { result ≡ released_of (group_of (table_in self.now) n) (mesh_from n self.now.meshes) }
     {
@@ -94,7 +94,8 @@ impl PageHeap {
         }
     }
 
-    /// The running mesh at a place, in the order in which they began. `None` only if there is no such place.
+    /// Returns the running mesh at index `place`, in the order in which the meshes began. Returns `None` if the list
+    /// has no such index.
     pub fn mesh(&self, place: usize) -> Option<Running>
         ensures { result ≡ slice_get self.now.meshes place }
     {
@@ -102,7 +103,7 @@ impl PageHeap {
     }
 }
 
-/// The span that is the member of a group at a place.
+/// Returns the span that is the member at index `place` of group `n`. Returns `None` if there is no such member.
 fn member_span(spans: &Spans, n: u32, place: usize) -> Option<Span>
     ensures { result ≡ slice_get (members_in (group_at spans.now.groups n)) place }
 {

@@ -15,11 +15,11 @@ use mesh_spans::Spans;
 use model_words::Refusal;
 
 impl PageHeap {
-    /// Removes an empty group, unmaps its virtual pages and frees its physical pages. Returns how many physical pages
-    /// these are.
+    /// Removes the empty group `n`, unmaps its virtual pages and frees its physical pages. Returns the number of freed
+    /// physical pages.
     ///
-    /// The error is NO_GROUP, BUSY if the group is in a mesh, or NOT_EMPTY, the first that applies; then nothing
-    /// changes.
+    /// The error is the first of NO_GROUP, BUSY (the group is in a mesh) and NOT_EMPTY that applies. After an error,
+    /// nothing has changed.
     pub fn sweep(&mut self, n: u32) -> Result<u32, Refusal>
         ensures swept { IfOk result (HasGone self.old self.new n) }
         ensures refused { IfErr result

@@ -13,9 +13,10 @@ use mesh_spans::{Group, Slot};
 use model_words::Refusal;
 
 impl Placement {
-    /// Removes each group that has no object, and frees its physical pages. Its virtual pages are never reused.
+    /// Removes each group that has no object, and frees the group's physical pages. The group's virtual pages are never
+    /// reused.
     ///
-    /// It looks at each number that a group can have.
+    /// The call visits every number that a group can have.
     pub fn sweep_empty(&mut self)
         ensures { IsSwept self.old self.new }
     {
@@ -44,10 +45,11 @@ impl Placement {
         self.taken_pages -= pages;
     }
 
-    /// Meshes the group `source` into the group `destination`: the members and objects of `source` become those of
-    /// `destination`, and the pages of `source` become free. No object changes its slot or its address.
+    /// Meshes the group `source` into the group `destination`. The members and objects of `source` become members and
+    /// objects of `destination`, and the pages of `source` become free. No object changes its slot or its address.
     ///
-    /// Refused with NO_GROUP, SAME, CLASS, OVERLAP or MEMBERS, the first that holds. Then nothing changes.
+    /// The error is the first of NO_GROUP, SAME, CLASS, OVERLAP and MEMBERS that applies. After an error, nothing has
+    /// changed.
     pub fn mesh(&mut self, source: u32, destination: u32) -> Result<Meshed, Refusal>
         ensures meshed { IfOk result (λ done. IsMeshed self.old self.new source destination done.pages done.bytes) }
         ensures refused { IfErr result (λ refusal.
@@ -61,7 +63,8 @@ impl Placement {
         Ok(meshed)
     }
 
-    /// Returns the class of two groups and the result that a mesh of them would have, if they may be meshed.
+    /// Returns the class of two groups and the result that a mesh of them would have, if they may be meshed. Otherwise
+    /// the error is the one that `mesh` returns.
     fn may_mesh(&self, source: u32, destination: u32) -> Result<(Class, Meshed), Refusal>
         ensures may { IfOk result (λ done. MayMesh self.now.index source destination done.0 done.1.pages done.1.bytes) }
         ensures refused { IfErr result
@@ -78,7 +81,7 @@ impl Placement {
     }
 }
 
-/// The sum of the lengths of the objects of a group.
+/// Returns the total length of a group's objects, in bytes.
 fn bytes_of(group: &Group) -> u32
     requires { IsGroup group.now }
     ensures { result ≡ sum_by len_in group.now.slots }

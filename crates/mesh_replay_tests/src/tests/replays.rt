@@ -1,4 +1,4 @@
-//! Replays: the golden files, failing devices, faulty files and recorded histories.
+//! Tests of replays: the golden files, failing devices, faulty files and recorded histories.
 
 ghost use Rattle.std.specs.Prelude.{◌≡◌, false};
 
@@ -13,7 +13,7 @@ mod faults;
 mod histories;
 mod rows;
 
-/// Replays the file of a source to memory, and prints the answers.
+/// Replays the file that a source contains, and prints the answers to memory.
 fn replayed_from<I: Source + Drop>(alloc: Global, input: I) -> Ran
     requires { I.has_failed input ≡ false }
 {
@@ -24,19 +24,19 @@ fn replayed_from<I: Source + Drop>(alloc: Global, input: I) -> Ran
     Ran::of_outputs(status, output, errors)
 }
 
-/// Replays a file from memory to memory, and prints the recorded history of its journal.
+/// Replays a file from memory, and prints the recorded history of its journal to memory.
 fn history_of(alloc: Global, file: &[u8]) -> Ran {
     let mut devices = in_memory(alloc, Input::new(file));
     let status = replay_history_run(alloc, &mut devices);
     Ran::of(status, devices)
 }
 
-/// Replays a file from memory to memory, and prints its answers.
+/// Replays a file from memory, and prints its answers to memory.
 fn replayed(alloc: Global, file: &[u8]) -> Ran {
     replayed_from(alloc, Input::new(file))
 }
 
-/// Asserts that a case has the wanted text.
+/// Asserts that the text of a case is the expected one.
 fn check_text<N: Display>(rt: &impl Abort, text: &[u8], wanted: &[u8], case: &N) {
     assert_eq!(rt; text, wanted, "{case}");
 }

@@ -12,7 +12,7 @@ use mesh_steps::{Report, StepDone};
 use model_words::Refusal;
 use std::alloc::AllocError;
 
-/// Appends words and a number that a call returned, or its refusal.
+/// Appends `words` and the number that a call returned. If the call was refused, appends only the refusal.
 pub fn add_counted(
     text: &mut Vec<u8>,
     words: &[u8],
@@ -34,7 +34,7 @@ fn add_count(text: &mut Vec<u8>, words: &[u8], count: u32) -> Result<(), AllocEr
     add_decimal(text, u64::from(count))
 }
 
-/// Appends `KIND left N` for a step that was made, or its refusal.
+/// Appends `KIND left N` for a step that was made. If the step was refused, appends the refusal.
 pub fn add_step(text: &mut Vec<u8>, step: Result<StepDone, Refusal>) -> Result<(), AllocError>
     ensures { OnOk result (text.new.items ≡ text.old.items ++ answer_text (step_told step)) }
 {

@@ -15,11 +15,11 @@ use mesh_page_heap::Busy;
 use model_words::Refusal;
 
 impl Heap {
-    /// Begins a mesh of the group `source` into the group `destination`, and returns how many steps it will make. Both
-    /// groups are closed to new objects until it has ended. It allocates nothing.
+    /// Begins a mesh of the group `source` into the group `destination`, and returns the number of its steps. Both
+    /// groups are closed to new objects until the mesh has ended. The call allocates nothing.
     ///
-    /// The error is the first that holds of NO_GROUP, SAME, CLASS, BUSY (a mesh of their class runs), OVERLAP and
-    /// MEMBERS.
+    /// The error is the first of NO_GROUP, SAME, CLASS, BUSY (a mesh of the groups' class runs), OVERLAP and MEMBERS
+    /// that applies.
     pub fn begin(&mut self, source: u32, destination: u32) -> Result<u32, Refusal>
         ensures { IsAnswered KeepsMeaning self.old self.new
             (begin mesh_of_class (table_of self.old) source destination) result
@@ -28,8 +28,8 @@ impl Heap {
         self.start(source, destination, Busy::OfClass)
     }
 
-    /// Makes the next step of the mesh of a class. It allocates nothing, and takes the same time whatever the number of
-    /// groups.
+    /// Makes the next step of the mesh of a class. The call allocates nothing, and its time doesn't depend on the
+    /// number of groups.
     ///
     /// The error is NO_MESH if and only if no mesh of the class runs.
     pub fn step(&mut self, class: Class) -> Result<StepDone, Refusal>
@@ -40,9 +40,9 @@ impl Heap {
         self.pages.step(class)
     }
 
-    /// Cancels the mesh of a class before its first remap, and returns how many unprotects are left. If none are left,
-    /// the mesh has ended. A further cancel returns the count that is left then, and changes nothing. It allocates
-    /// nothing.
+    /// Cancels the mesh of a class before its first remap, and returns the number of unprotect steps to come. If this
+    /// number is 0, the mesh has ended. A further cancel returns the number of unprotect steps left, and changes
+    /// nothing. The call allocates nothing.
     ///
     /// The error is NO_MESH if no mesh of the class runs, and TOO_LATE if a page was already remapped.
     pub fn cancel(&mut self, class: Class) -> Result<u32, Refusal>
@@ -54,11 +54,11 @@ impl Heap {
         self.pages.cancel(class)
     }
 
-    /// Meshes the group `source` into the group `destination` by `begin` and all its steps, and returns how many
-    /// physical pages were freed. It allocates nothing.
+    /// Begins a mesh of the group `source` into the group `destination`, makes all its steps, and returns the number of
+    /// freed physical pages. The call allocates nothing.
     ///
-    /// The error is the first that holds of NO_GROUP, SAME, CLASS, BUSY (a mesh of their class runs), OVERLAP and
-    /// MEMBERS.
+    /// The error is the first of NO_GROUP, SAME, CLASS, BUSY (a mesh of the groups' class runs), OVERLAP and MEMBERS
+    /// that applies.
     pub fn mesh_whole(&mut self, source: u32, destination: u32) -> Result<u32, Refusal>
         ensures { IsAnswered KeepsMeaning self.old self.new
             (mesh_whole mesh_of_class (table_of self.old) source destination) result
@@ -67,10 +67,10 @@ impl Heap {
         self.whole(source, destination, Busy::OfClass)
     }
 
-    /// Frees an empty group's pages, and returns how many physical pages were freed. The virtual pages of its members
-    /// are unmapped, and never used again. It allocates nothing.
+    /// Frees the pages of an empty group, and returns the number of freed physical pages. The virtual pages of the
+    /// group's members are unmapped, and never used again. The call allocates nothing.
     ///
-    /// The error is the first that holds of NO_GROUP, BUSY (the group is in a mesh) and NOT_EMPTY.
+    /// The error is the first of NO_GROUP, BUSY (the group is in a mesh) and NOT_EMPTY that applies.
     pub fn sweep(&mut self, group: u32) -> Result<u32, Refusal>
         ensures { IsAnswered KeepsMeaning self.old self.new (sweep (table_of self.old) group) result
             (IsSwept self.old self.new group) }
@@ -79,7 +79,7 @@ impl Heap {
         self.pages.sweep(group)
     }
 
-    /// Begins a mesh as `begin` does, but is refused with BUSY if a mesh of any class runs. It allocates nothing.
+    /// Begins a mesh as `begin` does, except that BUSY applies if a mesh of any class runs. The call allocates nothing.
     pub fn begin_alone(&mut self, source: u32, destination: u32) -> Result<u32, Refusal>
         ensures { IsAnswered KeepsMeaning self.old self.new
             (begin any_mesh (table_of self.old) source destination) result
@@ -88,7 +88,7 @@ impl Heap {
         self.start(source, destination, Busy::Any)
     }
 
-    /// Meshes two groups as `mesh_whole` does, but is refused with BUSY if a mesh of any class runs. It allocates
+    /// Meshes two groups as `mesh_whole` does, except that BUSY applies if a mesh of any class runs. The call allocates
     /// nothing.
     pub fn whole_alone(&mut self, source: u32, destination: u32) -> Result<u32, Refusal>
         ensures { IsAnswered KeepsMeaning self.old self.new
@@ -112,7 +112,8 @@ impl Heap {
         self.pages.first_running()
     }
 
-    /// Begins a mesh, unless a running mesh keeps its class busy.
+    /// Begins a mesh, and returns the number of its steps. The errors are those of `begin`, except that `busy` says
+    /// which running meshes are BUSY.
     fn start(&mut self, source: u32, destination: u32, busy: Busy) -> Result<u32, Refusal>
         ensures { IsAnswered KeepsMeaning self.old self.new
             (begin (busy_by busy) (table_of self.old) source destination) result
@@ -122,7 +123,8 @@ impl Heap {
         self.pages.begin(source, destination, busy)
     }
 
-    /// Begins a mesh and makes all its steps.
+    /// Begins a mesh, makes all its steps, and returns the number of freed physical pages. The errors are those of
+    /// `start`.
     fn whole(&mut self, source: u32, destination: u32, busy: Busy) -> Result<u32, Refusal>
         ensures { IsAnswered KeepsMeaning self.old self.new
             (mesh_whole (busy_by busy) (table_of self.old) source destination) result

@@ -12,7 +12,7 @@ use crate::{Mapping, Running};
 use mesh_class::Class;
 
 impl Heap {
-    /// The lowest virtual page that was never used, 1 to 65,536. All group numbers are below it.
+    /// The lowest virtual page that was never used, 1 to 65,536. All group numbers are below this number.
     pub fn next_page(&self) -> u32
         ensures { result ≡ (table_of self.now).next_page }
     {
@@ -26,8 +26,8 @@ impl Heap {
         self.pages.class_of(group)
     }
 
-    /// The member of a group at a place, by its first virtual page. A group has 1 to 8 members, in the order in which
-    /// they joined it. `None` if there is no such member.
+    /// Returns the first virtual page of the member at index `place` of a group. A group has 1 to 8 members, in the
+    /// order in which they joined the group. Returns `None` if there is no such member.
     pub fn member(&self, group: u32, place: usize) -> Option<u32>
         ensures value { result ≡ member_at (group_of (table_of self.now) group) place }
         ensures range { IfSome result (λ first. (1 ≤ first) × (first < 65536)) }
@@ -35,32 +35,35 @@ impl Heap {
         self.pages.member(group, place)
     }
 
-    /// The serial and the length in bytes of the object that the member at a place has in a slot. `None` if the member
-    /// has no object there.
+    /// Returns the serial and the length, in bytes, of the object that a member of a group has in a slot. The member is
+    /// the one at index `place`. Returns `None` if there is no such object.
     pub fn object(&self, group: u32, place: usize, slot: u32) -> Option<(u32, u32)>
         ensures { result ≡ object_at (group_of (table_of self.now) group) place slot }
     {
         self.pages.object(group, place, slot)
     }
 
-    /// The physical page at a place of a group's pages; the class determines how many there are. The last steps of a
-    /// mesh from the group free them one by one, but the group names them until the mesh has ended. `None` if there is
-    /// no such page.
+    /// Returns the physical page at index `place` in the list of a group's pages, or `None` if there is no such page.
+    /// The class determines the number of pages.
+    ///
+    /// The last steps of a mesh from the group free these pages one by one. They stay in the list until the mesh has
+    /// ended.
     pub fn home(&self, group: u32, place: usize) -> Option<u32>
         ensures { result ≡ home_at (index_of self.now) group place }
     {
         self.pages.home(group, place)
     }
 
-    /// Whether a physical page, numbered from 0, is taken by a group, or by a mesh's source that hasn't released it.
-    /// Always false for numbers from the heap's size on.
+    /// Whether a physical page, numbered from 0, is taken: a group has the page, and no mesh has released it. False if
+    /// there is no page with this number.
     pub fn is_taken(&self, page: u32) -> bool
         ensures { result ≡ is_taken (arena_of self.now) page }
     {
         self.pages.is_taken(page)
     }
 
-    /// How many of a group's physical pages a mesh from it has freed. They are the first ones of the group's pages.
+    /// Returns how many physical pages of a group were freed by the running mesh from this group, or 0 if no such mesh
+    /// runs. The freed pages are the first of the group's pages.
     pub fn released(&self, group: u32) -> u32
         ensures { result ≡ released_of (group_of (table_of self.now) group)
             (mesh_from group (table_of self.now).meshes) }
@@ -76,7 +79,8 @@ impl Heap {
         self.pages.lead(page)
     }
 
-    /// The running mesh at a place, in the order in which the meshes began. `None` if fewer meshes run.
+    /// Returns the running mesh at index `place`, in the order in which the meshes began. Returns `None` if there is no
+    /// mesh at this index.
     pub fn mesh(&self, place: usize) -> Option<Running>
         ensures { result ≡ slice_get (table_of self.now).meshes place }
     {

@@ -9,8 +9,8 @@ use mesh_search::ClassView;
 use std::alloc::{AllocError, Global};
 
 impl Heap {
-    /// The groups of each class that may be paired, with classes in ascending order by size. An error is an allocation
-    /// failure.
+    /// Returns the candidates of each class (the groups that a search may pair), with the classes in ascending order of
+    /// size. Returns an error if an allocation fails.
     pub fn views(&self, alloc: Global) -> Result<Vec<ClassView>, AllocError>
         ensures { IfOk result (λ list. list.items ≡ views (table_of self.now)) }
     {
@@ -21,7 +21,7 @@ impl Heap {
         Ok(views)
     }
 
-    /// The groups of one class that may be paired. An error is an allocation failure.
+    /// Returns the candidates of one class: the groups that a search may pair. Returns an error if an allocation fails.
     pub fn view(&self, alloc: Global, class: Class) -> Result<ClassView, AllocError>
         ensures { IfOk result (λ view. view ≡ view_of (table_of self.now) class) }
     {

@@ -1,4 +1,4 @@
-//! A book behind a lock: its journal, its seats and its one history.
+//! Tests of a book behind a lock: its journal, its seats and its settled history.
 
 mod calls;
 mod journals;

@@ -1,4 +1,4 @@
-//! Scripts on threads that run next to meshers, stopped at points by a gate.
+//! Tests of scripts on threads that run next to meshers, with a gate that stops the threads at chosen points.
 
 mod gates;
 mod meshers;

@@ -1,4 +1,4 @@
-//! The calls of a heap, made on a book: the number of the cell that names an object is the object's serial.
+//! A book that gets the calls of a heap. The cell that names an object has the object's serial as its number.
 ghost use Rattle.std.specs.Prelude.{◌≤◌, IfSome};
 ghost use Rattle.model_words.specs.Commands.{IsInRange};
 
@@ -13,10 +13,10 @@ use model_words::{Command, MAX_BYTES, Reply};
 use std::alloc::{AllocError, Global};
 use std::process::Abort;
 
-/// The journal's room: more entries than any test makes calls.
+/// The capacity of the journal, in entries. No test makes as many calls.
 const ROOM: u32 = 400;
 
-/// A book, and how many objects it has made.
+/// A book, and the number of objects that it has made.
 #[derive(Drop)]
 pub(crate) struct TriedBook {
     book: Book,
@@ -55,7 +55,7 @@ impl TriedBook {
     }
 }
 
-/// The command for a mutator's call, on a book that has made `objects` objects.
+/// Returns the command for a mutator's call on a book that has made `objects` objects, or `None` for a mesher's call.
 fn command_of(rt: &impl Abort, objects: u8, call: Call) -> Option<Command>
     ensures { IfSome result (λ command. IsInRange command) }
 {
@@ -86,14 +86,14 @@ fn command_of(rt: &impl Abort, objects: u8, call: Call) -> Option<Command>
     })
 }
 
-/// The cell that names the object with a serial, among `objects` objects.
+/// Returns the cell that names the object with a serial. Asserts that the serial is below `objects`.
 fn cell(rt: &impl Abort, objects: u8, serial: u32) -> u8 {
     let cell = u8::try_from(serial).expect(rt, "a cell");
     assert!(rt; cell < objects, "no object {serial}");
     cell
 }
 
-/// At most 32 bytes, in the form that a command stores.
+/// Returns bytes in the type that a command stores. Asserts that there are at most 32.
 fn bytes_of(rt: &impl Abort, bytes: &[u8]) -> ArrayVec<u8, MAX_BYTES> {
     let mut stored = ArrayVec::new();
     let extended = stored.try_extend_from_slice(bytes);
@@ -101,7 +101,7 @@ fn bytes_of(rt: &impl Abort, bytes: &[u8]) -> ArrayVec<u8, MAX_BYTES> {
     stored
 }
 
-/// The answer of an attempt.
+/// Returns the answer of an attempt, in the form that is compared.
 fn told(attempt: &Attempt) -> Told {
     match attempt {
         Attempt::Done(reply) => replied(reply),
@@ -111,7 +111,7 @@ fn told(attempt: &Attempt) -> Told {
     }
 }
 
-/// A reply in the form of an answer.
+/// Returns a reply in the form that is compared.
 fn replied(reply: &Reply) -> Told {
     match reply {
         Reply::Object(serial, addr) => made(*serial, *addr),

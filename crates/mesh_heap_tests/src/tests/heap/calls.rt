@@ -23,7 +23,7 @@ macro_rules! mesher_answer {
 
 pub(crate) use mesher_answer;
 
-/// A call of a heap. It names an object by its serial, and a class by its size.
+/// A call of a heap. A call names an object by its serial, and a class by its slot size in bytes.
 #[derive(Clone, Copy)]
 pub(crate) enum Call {
     // Of a length, by a word.
@@ -50,7 +50,7 @@ pub(crate) enum Call {
 }
 
 impl Call {
-    /// The call's name, for failure messages.
+    /// The name of the call, for failure messages.
     pub(crate) fn name(self) -> &'static str {
         match self {
             Call::New(_, _) => "New",
@@ -72,7 +72,7 @@ impl Call {
         }
     }
 
-    /// The call's numbers, and the length of its bytes, for failure messages.
+    /// The numbers of the call and the length of its bytes, for failure messages.
     pub(crate) fn numbers(self) -> [u64; 5] {
         match self {
             Call::New(len, word) => [len as u64, word, 0, 0, 0],
@@ -150,7 +150,7 @@ impl Answer {
 /// An answer as its name and its numbers: the form that is compared and printed in failure messages.
 pub(crate) type Told = (&'static str, [u64; 5]);
 
-/// The answers of a store that was done, and of one that was blocked.
+/// The answer of a store that was done. `BLOCKED` is the answer of a store that was blocked.
 pub(crate) const DONE: Told = ("Done", [0; 5]);
 
 pub(crate) const BLOCKED: Told = ("Blocked", [0; 5]);
@@ -166,22 +166,22 @@ pub(crate) fn made(serial: u32, addr: u32) -> Told {
     ("Made", [serial as u64, addr as u64, 0, 0, 0])
 }
 
-/// The answer of a load: the length of the bytes, and the number that they spell.
+/// The answer of a load: the number of bytes, and the bytes as a big-endian number.
 pub(crate) fn loaded(len: usize, number: u64) -> Told {
     ("Bytes", [len as u64, number, 0, 0, 0])
 }
 
-/// An answer of one number.
+/// An answer that consists of a name and one number.
 pub(crate) fn counted(name: &'static str, count: u32) -> Told {
     (name, [count as u64, 0, 0, 0, 0])
 }
 
-/// A refusal.
+/// The answer of a refused call: the refusal's name and number.
 pub(crate) fn refused(refusal: Refusal) -> Told {
     (refusal.name(), [refusal.number() as u64, 0, 0, 0, 0])
 }
 
-/// Whether a mesh runs.
+/// The answer to whether a mesh runs.
 pub(crate) fn running(runs: bool) -> Told {
     if runs {
         ("Runs", [0; 5])
@@ -190,7 +190,7 @@ pub(crate) fn running(runs: bool) -> Told {
     }
 }
 
-/// The counts of a report.
+/// The answer of a report: its five counts.
 pub(crate) fn reported(report: Report) -> Told {
     (
         "Counts",
@@ -204,7 +204,7 @@ pub(crate) fn reported(report: Report) -> Told {
     )
 }
 
-/// The steps that are left.
+/// The answer of a call that returns the number of steps left.
 pub(crate) fn left(steps: Result<u32, Refusal>) -> Told {
     match steps {
         Ok(steps) => counted("Left", steps),
@@ -212,7 +212,7 @@ pub(crate) fn left(steps: Result<u32, Refusal>) -> Told {
     }
 }
 
-/// A step of a mesh.
+/// The answer of a mesh's step: the kind of the step, and the number of steps left.
 pub(crate) fn stepped(step: Result<StepDone, Refusal>) -> Told {
     match step {
         Ok(done) => counted(name_of(done.kind), done.left),
@@ -220,7 +220,7 @@ pub(crate) fn stepped(step: Result<StepDone, Refusal>) -> Told {
     }
 }
 
-/// The pages that were freed.
+/// The answer of a call that returns the number of freed pages.
 pub(crate) fn freed(pages: Result<u32, Refusal>) -> Told {
     match pages {
         Ok(pages) => counted("Pages", pages),
@@ -239,7 +239,7 @@ fn name_of(kind: StepKind) -> &'static str {
     }
 }
 
-/// The number whose last eight digits in base 256 are the last bytes.
+/// Returns the last eight bytes as a big-endian number.
 pub(crate) fn number(bytes: &[u8]) -> u64 {
     let mut number = 0;
     for byte in bytes {

@@ -1,4 +1,4 @@
-//! The calls of a heap: a serial names an object.
+//! A heap that gets calls, each of which names an object by its serial.
 ghost use Rattle.std.specs.Prelude.{◌≤◌};
 
 use crate::tests::heap::calls::{
@@ -12,7 +12,7 @@ use model_words::MAX_BYTES;
 use std::alloc::{AllocError, Global};
 use std::process::Abort;
 
-/// Asserts that `len` bytes can be loaded or copied at once.
+/// Asserts that a load or a copy of `len` bytes is allowed: 1 to 32.
 pub(crate) fn check_length(rt: &impl Abort, len: u32)
     ensures some { 1 ≤ len }
     ensures most { len ≤ 32 }
@@ -20,10 +20,10 @@ pub(crate) fn check_length(rt: &impl Abort, len: u32)
     assert!(rt; 1 <= len && len <= 32, "{len} bytes");
 }
 
-/// The most objects that a test makes.
+/// The greatest number of objects that a test makes.
 pub(crate) const MAX_OBJECTS: usize = 32;
 
-/// A heap with the addresses of its objects, by serial.
+/// A heap, and the address of each of its objects by the object's serial.
 #[derive(Drop)]
 pub(crate) struct TriedHeap {
     heap: Heap,
@@ -93,7 +93,7 @@ impl TriedHeap {
     }
 }
 
-/// The reference to the object with a serial, given the objects' addresses.
+/// Returns the reference to the object with a serial. `addresses` has the address of each object.
 fn object(rt: &impl Abort, addresses: &ArrayVec<u32, MAX_OBJECTS>, serial: u32) -> Ref {
     let addr = addresses.get(serial as usize).expect(rt, "an object");
     Ref {
@@ -102,7 +102,7 @@ fn object(rt: &impl Abort, addresses: &ArrayVec<u32, MAX_OBJECTS>, serial: u32) 
     }
 }
 
-/// Reads 1 to 32 bytes.
+/// Reads `len` bytes from an offset of an object. Asserts that `len` is 1 to 32.
 fn read(rt: &impl Abort, heap: &Heap, object: Ref, off: u32, len: u32) -> Told {
     check_length(rt, len);
     match heap.read(object, off, len) {
@@ -111,7 +111,7 @@ fn read(rt: &impl Abort, heap: &Heap, object: Ref, off: u32, len: u32) -> Told {
     }
 }
 
-/// Writes 1 to 32 bytes.
+/// Writes bytes from an offset of an object. Asserts that there are 1 to 32 bytes.
 fn write(rt: &impl Abort, heap: &mut Heap, object: Ref, off: u32, bytes: &[u8]) -> Told {
     assert!(rt;
         !bytes.is_empty() && bytes.len() <= MAX_BYTES,
@@ -136,7 +136,7 @@ fn free(heap: &mut Heap, object: Ref) -> Told {
     }
 }
 
-/// A store's result in the form of an answer.
+/// Returns a store's result in the form that is compared.
 fn told(stored: Stored) -> Told {
     match stored {
         Stored::Done => DONE,
@@ -150,7 +150,7 @@ fn meshed(rt: &impl Abort, heap: &mut Heap, call: Call) -> Told {
     mesher_answer!(rt, heap, call)
 }
 
-/// The class with this size. Asserts that there is one.
+/// Returns the class with this slot size in bytes. Asserts that there is one.
 pub(crate) fn class_at(rt: &impl Abort, size: u32) -> Class {
     class_of(size).expect(rt, "a class")
 }

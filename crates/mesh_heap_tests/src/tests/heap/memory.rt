@@ -1,4 +1,4 @@
-//! Calls that allocate, when there is enough memory.
+//! Tests of calls that allocate, with enough memory.
 use mesh_arena::Arena;
 use mesh_pagemap::PageMap;
 use mesh_store::Store;

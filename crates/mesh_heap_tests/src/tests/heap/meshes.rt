@@ -1,11 +1,11 @@
-//! Worked meshes and copies, by calls of a heap.
+//! Worked examples of meshes and copies, as calls of a heap.
 
 use crate::tests::heap::calls::{Answer, Call};
 use crate::tests::heap::tried::Tried;
 use model_words::{Refusal, StepKind};
 use std::process::Abort;
 
-/// The initial state of the heap and the book of a test.
+/// The initial state of a test's heap and book.
 struct Start {
     pages: u32,
     // The number of objects, their length, and the distance in bytes from each object to the next. The first object is
@@ -19,7 +19,7 @@ struct Start {
     calls: &'static [(Call, Answer)],
 }
 
-/// Four objects of the class 2048, two in each group.
+/// Two groups of the class 2048, each with two objects.
 const FOUR: Start = Start {
     pages: 16,
     objects: 4,
@@ -45,20 +45,20 @@ static EMPTIED: Start = Start {
     ..FOUR
 };
 
-/// Two groups with one object each: the first has slot 1, the second slot 0.
+/// Two groups with one object each: the first group's object is in slot 1, the second group's in slot 0.
 static TWO_GROUPS: Start = Start {
     freed: &[0, 3],
     ..FOUR
 };
 
-/// The same in an arena of two pages.
+/// The state `TWO_GROUPS` in an arena of two pages.
 static TWO_PAGES: Start = Start {
     pages: 2,
     freed: &[0, 3],
     ..FOUR
 };
 
-/// The two groups, with a byte in the second object and their mesh begun.
+/// The state `TWO_GROUPS` with a byte stored in the second object and a mesh of the groups begun.
 static BEGUN: Start = Start {
     freed: &[0, 3],
     calls: &[
@@ -68,7 +68,7 @@ static BEGUN: Start = Start {
     ..FOUR
 };
 
-/// The two groups, after a mesh that was cancelled after one slot was copied, and unwound.
+/// The state `TWO_GROUPS` after a mesh that copied one slot, was cancelled, and was then unwound.
 static UNWOUND: Start = Start {
     freed: &[0, 3],
     calls: &[
@@ -82,8 +82,8 @@ static UNWOUND: Start = Start {
     ..FOUR
 };
 
-/// Two groups of three pages, with seven objects and one, and their mesh begun. The last object crosses from its
-/// group's first page to the second.
+/// Two groups of three pages with a mesh begun. The first group has seven objects, the second has one, which crosses
+/// from its group's first page to the second page.
 static LONG: Start = Start {
     objects: 11,
     len: 1500,
@@ -98,8 +98,8 @@ static LONG: Start = Start {
     ..FOUR
 };
 
-/// Sixteen objects in four groups. One object is left in each group, in four different slots. The groups are meshed in
-/// pairs.
+/// Sixteen objects in four groups, of which one object is left in each group, in four different slots. The groups are
+/// then meshed in pairs.
 static MESHED_TWICE: Start = Start {
     objects: 16,
     len: 1024,
@@ -112,7 +112,7 @@ static MESHED_TWICE: Start = Start {
     ..FOUR
 };
 
-/// The two groups, and two groups of the class 1024 with three objects and one.
+/// The state `TWO_GROUPS`, and two groups of the class 1024: one with three objects, one with one object.
 static TWO_CLASSES: Start = Start {
     freed: &[0, 3],
     calls: &[
@@ -145,12 +145,13 @@ fn begin<R: Abort + AllocGlobal>(tried: &mut Tried<'_, R>, start: &Start) {
     tried.play(start.calls);
 }
 
-/// Asserts that a heap and a book in this initial state give these answers to calls, in order.
+/// Asserts that a heap and a book in this initial state give the expected answers to calls, in order.
 fn played<R: Abort + AllocGlobal>(rt: &R, start: &Start, calls: &[(Call, Answer)]) {
     played_after(rt, start, &[], calls);
 }
 
-/// Asserts the same after steps of a mesh.
+/// Asserts that a heap and a book in this initial state give the expected answers to the steps of a mesh, and then to
+/// calls.
 fn played_after<R: Abort + AllocGlobal>(
     rt: &R,
     start: &Start,
@@ -161,7 +162,7 @@ fn played_after<R: Abort + AllocGlobal>(
     play(&mut tried, start, steps, calls);
 }
 
-/// Makes the calls on a fresh heap and book.
+/// Brings a fresh heap and book to the initial state, and asserts their answers to the steps and then to the calls.
 fn play<R: Abort + AllocGlobal>(
     tried: &mut Tried<'_, R>,
     start: &Start,
@@ -173,8 +174,8 @@ fn play<R: Abort + AllocGlobal>(
     tried.play(calls);
 }
 
-/// The steps of the mesh of the two groups, with a read of the copied object after each, and the answers once the
-/// groups are one.
+/// The steps of the mesh of the two groups, each with a read of the copied object after it. Calls on the meshed group
+/// follow.
 static READ_AT_EACH_STEP: [(Call, Answer); 19] = [
     (Call::Step(2048), Answer::Stepped(StepKind::Protect, 5)),
     (Call::Read(2, 0, 1), Answer::Bytes(1, 0xab)),
@@ -202,8 +203,8 @@ fn reads_are_answered_at_each_step(rt: HostRuntime) {
     played(&rt, &BEGUN, &READ_AT_EACH_STEP);
 }
 
-/// The answers while the second group's page is read-only, once it is remapped and still read-only, and once it is
-/// writable again.
+/// Stores and reads while the second group's page is read-only, after its remap while it is still read-only, and once
+/// it is writable again.
 static STORED_AT_STEPS: [(Call, Answer); 16] = [
     (Call::Step(2048), Answer::Stepped(StepKind::Protect, 5)),
     (Call::Write(2, 0, &[0xcd]), Answer::Blocked),
@@ -228,7 +229,7 @@ fn stores_are_blocked_while_a_page_is_protected(rt: HostRuntime) {
     played(&rt, &BEGUN, &STORED_AT_STEPS);
 }
 
-/// The object that a running mesh is to copy is freed.
+/// Steps of a mesh, during which the object that the mesh would copy is freed.
 static FREED_AMID: [(Call, Answer); 7] = [
     (Call::Step(2048), Answer::Stepped(StepKind::Protect, 5)),
     (Call::Free(2), Answer::Done),
@@ -244,7 +245,7 @@ fn an_object_is_freed_in_a_mesh(rt: HostRuntime) {
     played(&rt, &BEGUN, &FREED_AMID);
 }
 
-/// Meshes of groups with a slot in common, of a group with itself, and of a number that is no group.
+/// Refused meshes: of groups with a common occupied slot, of a group with itself, and of a group that doesn't exist.
 static NO_MESHES: [(Call, Answer); 6] = [
     (Call::Begin(1, 0), Answer::Refused(Refusal::Overlap)),
     (Call::Begin(1, 1), Answer::Refused(Refusal::Same)),
@@ -259,7 +260,7 @@ fn groups_that_do_not_mesh_are_refused(rt: HostRuntime) {
     played(&rt, &FOUR_OBJECTS, &NO_MESHES);
 }
 
-/// An object for which there is a page only after a mesh.
+/// An object that gets a page only after a mesh has freed one.
 static ROOM_MADE: [(Call, Answer); 3] = [
     (Call::New(64, 0), Answer::Refused(Refusal::NoPages)),
     (Call::Whole(1, 0), Answer::Pages(1)),
@@ -271,7 +272,7 @@ fn a_mesh_makes_room(rt: HostRuntime) {
     played(&rt, &TWO_PAGES, &ROOM_MADE);
 }
 
-/// A mesh that is begun again after it was cancelled, and a cancel after its first remap.
+/// A mesh that begins again after a cancel. Its own cancel comes after its first remap and is refused.
 static BEGUN_AGAIN: [(Call, Answer); 8] = [
     (Call::Step(2048), Answer::Refused(Refusal::NoMesh)),
     (Call::Write(2, 0, &[0xee]), Answer::Done),
@@ -288,7 +289,7 @@ fn a_mesh_is_cancelled_before_its_first_remap(rt: HostRuntime) {
     played(&rt, &UNWOUND, &BEGUN_AGAIN);
 }
 
-/// Cancels before the first step, while the mesh unwinds, and after it.
+/// Cancels of a mesh: before its first step, while the mesh unwinds, and after it has ended.
 static CANCELLED_TWICE: [(Call, Answer); 10] = [
     (Call::Cancel(2048), Answer::Left(0)),
     (Call::Step(2048), Answer::Refused(Refusal::NoMesh)),
@@ -307,7 +308,7 @@ fn a_further_cancel_changes_nothing(rt: HostRuntime) {
     played(&rt, &BEGUN, &CANCELLED_TWICE);
 }
 
-/// An object in the slot that was copied to.
+/// A new object in the slot to which the cancelled mesh had copied. It has zero bytes.
 static HIDDEN: [(Call, Answer); 2] = [
     (Call::New(2048, 0), Answer::Made(4, 0x1000)),
     (Call::Read(4, 0, 1), Answer::Bytes(1, 0x00)),
@@ -318,7 +319,7 @@ fn a_new_object_hides_what_a_cancelled_mesh_copied(rt: HostRuntime) {
     played(&rt, &UNWOUND, &HIDDEN);
 }
 
-/// Calls with the groups of a running mesh.
+/// Calls on the groups of a running mesh. All are refused, and a new object gets another group.
 static CLOSED: [(Call, Answer); 4] = [
     (Call::Begin(1, 0), Answer::Refused(Refusal::Busy)),
     (Call::Begin(1, 1), Answer::Refused(Refusal::Same)),
@@ -331,10 +332,10 @@ fn groups_of_a_running_mesh_are_closed(rt: HostRuntime) {
     played(&rt, &BEGUN, &CLOSED);
 }
 
-/// Bytes of the object that crosses pages. The first four are in one page, the others in the next.
+/// Bytes of the object that crosses pages. The first four bytes are on one page, the other four on the next page.
 const CROSSING: &[u8] = &[1, 2, 3, 4, 5, 6, 7, 8];
 
-/// A read of these bytes.
+/// A read of the bytes `CROSSING`.
 const HELD: (Call, Answer) = (
     Call::Read(10, 1020, 8),
     Answer::Bytes(8, 0x0102_0304_0506_0708),
@@ -364,13 +365,13 @@ static LONG_STEPS: [(Call, Answer); 20] = [
     (Call::Step(1536), Answer::Stepped(StepKind::Release, 0)),
 ];
 
-/// Asserts that the heap and the book give these answers to calls, in order, after `steps` steps of that mesh.
+/// Asserts that the heap and the book give the expected answers to calls after the first `steps` steps of `LONG_STEPS`.
 fn played_long<R: Abort + AllocGlobal>(rt: &R, steps: usize, calls: &[(Call, Answer)]) {
     let steps = LONG_STEPS.get(..steps).expect(rt, "steps");
     played_after(rt, &LONG, steps, calls);
 }
 
-/// The answers once the first of three pages is remapped, and the steps up to the first release.
+/// Calls once the first of three pages is remapped, with the further steps up to the first release.
 static HALF_REMAPPED: [(Call, Answer); 11] = [
     HELD,
     (Call::Peek(0x4fff), Answer::Bytes(1, 0x04)),
@@ -399,7 +400,7 @@ fn stored(steps: usize, last: usize) -> Answer {
     }
 }
 
-/// The answer to a cancel of the mesh of three-page groups after `steps` steps.
+/// The answer to a cancel after `steps` steps of the mesh of three-page groups.
 fn cancelled_after(steps: usize) -> Answer {
     match steps {
         0 => Answer::Left(0),
@@ -411,7 +412,8 @@ fn cancelled_after(steps: usize) -> Answer {
     }
 }
 
-/// Asserts the answers if the mesh of three-page groups is abandoned after `steps` steps.
+/// Asserts the answers to stores, loads, copies and a cancel if the mesh of three-page groups is abandoned after
+/// `steps` steps.
 fn check_abandoned<R: Abort + AllocGlobal>(rt: &R, steps: usize) {
     let first = stored(steps, 14);
     let both = stored(steps, 15);
@@ -436,7 +438,7 @@ fn an_abandoned_mesh_keeps_its_answers(rt: HostRuntime) {
     }
 }
 
-/// A mesh of three pages that is cancelled once all are read-only.
+/// The unwinding of a mesh of three pages that is cancelled once all three are read-only.
 static UNWINDING: [(Call, Answer); 11] = [
     (Call::Cancel(1536), Answer::Left(3)),
     (Call::Write(10, 0, &[0xff]), Answer::Blocked),
@@ -458,7 +460,7 @@ fn a_cancelled_mesh_unwinds(rt: HostRuntime) {
     }
 }
 
-/// An object in the slot that would have made the two groups meshable.
+/// A new object in a slot that prevents the mesh of two groups.
 static IN_THE_WAY: [(Call, Answer); 7] = [
     (Call::Free(1), Answer::Done),
     (Call::Free(3), Answer::Done),
@@ -474,7 +476,7 @@ fn a_new_object_stands_in_the_way(rt: HostRuntime) {
     played(&rt, &EIGHT_OBJECTS, &IN_THE_WAY);
 }
 
-/// The counts before and after a mesh.
+/// The report before a mesh and after it.
 static PAGE_SAVED: [(Call, Answer); 3] = [
     (Call::Report, Answer::Counts(2, 4096, 2, 2, 0)),
     (Call::Whole(1, 0), Answer::Pages(1)),
@@ -502,7 +504,7 @@ fn an_empty_group_is_swept(rt: HostRuntime) {
     played(&rt, &TWO_GROUPS, &SWEPT);
 }
 
-/// Meshes into the first group until it has eight members, and a refused mesh that would add a ninth.
+/// Meshes into the first group until it has eight members, then a mesh that would add a ninth and is refused.
 static MOST_MEMBERS: [(Call, Answer); 10] = [
     (Call::Whole(1, 0), Answer::Pages(1)),
     (Call::Whole(2, 0), Answer::Pages(1)),
@@ -521,7 +523,7 @@ fn eight_members_are_most(rt: HostRuntime) {
     played(&rt, &EMPTIED, &MOST_MEMBERS);
 }
 
-/// The last mesh of four groups.
+/// The mesh that joins the last two groups, and calls after it.
 static FOUR_IN_ONE: [(Call, Answer); 4] = [
     (Call::Whole(2, 0), Answer::Pages(1)),
     (Call::Report, Answer::Counts(4, 4096, 4, 1, 3)),
@@ -560,8 +562,8 @@ fn a_source_of_two_members_goes_page_by_page(rt: HostRuntime) {
     played(&rt, &MESHED_TWICE, &PAGE_BY_PAGE);
 }
 
-/// Meshes of two classes, begun, stepped and cancelled at the same time, the further steps of the one that isn't
-/// cancelled, and the answers once both have ended.
+/// Two meshes of different classes that run at the same time. One is cancelled, the other is finished, and calls after
+/// both follow.
 static ONE_IN_EACH: [(Call, Answer); 24] = [
     (Call::Running(2048), Answer::Runs(false)),
     (Call::Begin(1, 0), Answer::Left(6)),
@@ -594,7 +596,7 @@ fn one_mesh_runs_in_each_class(rt: HostRuntime) {
     played(&rt, &TWO_CLASSES, &ONE_IN_EACH);
 }
 
-/// Meshes that begin only while no mesh of any class runs.
+/// Meshes by `begin_alone` and `whole_alone`, which are refused while a mesh of any class runs.
 static ALONE: [(Call, Answer); 8] = [
     (Call::BeginAlone(1, 0), Answer::Left(6)),
     (Call::BeginAlone(3, 2), Answer::Refused(Refusal::Busy)),
@@ -611,7 +613,7 @@ fn a_mesh_alone_waits_for_each_class(rt: HostRuntime) {
     played(&rt, &TWO_CLASSES, &ALONE);
 }
 
-/// Copies within one object.
+/// Copies within one object, with overlapping ranges.
 static OVERLAPPING: [(Call, Answer); 10] = [
     (Call::New(2048, 0), Answer::Made(0, 0x1000)),
     (Call::Write(0, 0, &[1, 2, 3, 4, 5]), Answer::Done),
@@ -636,7 +638,7 @@ fn ranges_of_a_copy_overlap(rt: HostRuntime) {
     played(&rt, &NO_OBJECTS, &OVERLAPPING);
 }
 
-/// Copies out of a read-only page and into it.
+/// A copy from a read-only page, which is done, and a copy to a read-only page, which is blocked.
 static BLOCKED_COPY: [(Call, Answer); 5] = [
     (Call::Step(1024), Answer::Refused(Refusal::NoMesh)),
     (Call::Step(2048), Answer::Stepped(StepKind::Protect, 5)),

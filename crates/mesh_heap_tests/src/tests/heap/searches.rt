@@ -1,23 +1,23 @@
-//! The worked searches, on the views of a heap and of a book.
+//! The worked examples of searches, on the views of a heap and of a book.
 use mesh_class::{Class, class_of};
 use mesh_mutator::{Book, Command};
 use mesh_search::{ClassView, Pair, search_one};
 use mesh_steps::{Heap, Ref};
 use std::process::Abort;
 
-/// How many objects of the class 2048 are made, two in each group, and which of them are freed. Four groups are left,
-/// each with one object.
+/// The number of objects of the class 2048, two in each group. `FREED` names the ones to free, which leaves one object
+/// in each of four groups.
 const OBJECTS: u8 = 8;
 
 static FREED: [u8; 4] = [1, 3, 4, 6];
 
-/// The last object.
+/// The serial of the last object.
 const LAST: u8 = 7;
 
-/// The words of the worked searches.
+/// The random words of the worked searches.
 static WORDS: [u64; 3] = [2, 0, 5];
 
-/// Two groups, source first.
+/// Returns a pair of two group numbers, source first.
 fn pair(source: u32, destination: u32) -> Pair {
     Pair {
         source,
@@ -25,21 +25,21 @@ fn pair(source: u32, destination: u32) -> Pair {
     }
 }
 
-/// Asserts what a search of a view finds in `t` rounds.
+/// Asserts the pairs that a search of a view finds in `t` rounds, and the number of its tries.
 fn check(rt: &(impl Abort + AllocGlobal), view: &ClassView, t: u32, pairs: &[Pair], probes: u64) {
     let found = search_one(rt.alloc(), view, &WORDS, t).expect(rt, "memory");
     let is_found = found.probes == probes && found.pairs.as_slice() == pairs;
     assert!(rt; is_found, "in {t} rounds: {} tries", found.probes);
 }
 
-/// Asserts what is found in a view of the four groups.
+/// Asserts the results of searches in a view of the four groups.
 fn check_four(rt: &(impl Abort + AllocGlobal), view: &ClassView) {
     check(rt, view, 0, &[], 0);
     check(rt, view, 1, &[], 2);
     check(rt, view, 2, &[pair(1, 2), pair(3, 0)], 4);
 }
 
-/// The object with a serial. Each object is half a page after the one before.
+/// Returns the reference to the object with a serial. Each object is half a page after the one before.
 fn object(serial: u8) -> Ref {
     Ref {
         serial: u32::from(serial),
@@ -47,7 +47,7 @@ fn object(serial: u8) -> Ref {
     }
 }
 
-/// Makes the objects in a heap, and frees those of the list.
+/// Makes eight objects in a heap, and then frees four of them.
 fn fill(rt: &impl Abort, heap: &mut Heap) {
     for _ in 0..OBJECTS {
         make(rt, heap);
@@ -68,19 +68,19 @@ fn free(rt: &impl Abort, heap: &mut Heap, serial: u8) {
     assert!(rt; heap.free(object(serial)).is_ok());
 }
 
-/// Asserts what is found in a heap's view of the class 2048, which is the last of all its views.
+/// Asserts the results of searches in a heap's view of the class 2048, made alone and as the last of all views.
 fn check_heap(rt: &(impl Abort + AllocGlobal), heap: &Heap, class: Class) {
     check_four(rt, &heap.view(rt.alloc(), class).expect(rt, "memory"));
     let views = heap.views(rt.alloc()).expect(rt, "memory");
     check_four(rt, views.as_slice().get(9).expect(rt, "a class"));
 }
 
-/// Asserts what is found if the last object is freed too.
+/// Asserts the result of a search in the view that is left once the last object is freed too.
 fn check_three(rt: &(impl Abort + AllocGlobal), view: &ClassView) {
     check(rt, view, 2, &[pair(0, 2)], 1);
 }
 
-/// Asserts what is found in a filled heap, and after the last object is freed too.
+/// Asserts the results of searches in a filled heap, before and after its last object is freed too.
 fn search_heap(rt: &(impl Abort + AllocGlobal), heap: &mut Heap) {
     let class = class_of(2048).expect(rt, "a class");
     fill(rt, heap);
@@ -95,14 +95,14 @@ fn a_heap_is_searched_by_its_own_view(rt: HostRuntime) {
     search_heap(&rt, &mut heap);
 }
 
-/// Asserts what is found in a book's view of the class 2048, which is the last of all its views.
+/// Asserts the results of searches in a book's view of the class 2048, made alone and as the last of all views.
 fn check_book(rt: &(impl Abort + AllocGlobal), book: &Book, class: Class) {
     check_four(rt, &book.view(rt.alloc(), class).expect(rt, "memory"));
     let views = book.views(rt.alloc()).expect(rt, "memory");
     check_four(rt, views.as_slice().get(9).expect(rt, "a class"));
 }
 
-/// Makes the objects in a book, and frees those of the list.
+/// Makes eight objects in a book, and then frees four of them.
 fn fill_book(book: &mut Book) {
     for k in 0..OBJECTS {
         book.act(0, &Command::New(k, 2048, 0));
@@ -112,7 +112,7 @@ fn fill_book(book: &mut Book) {
     }
 }
 
-/// Asserts what is found in a filled book, and after the last object is freed too.
+/// Asserts the results of searches in a filled book, before and after its last object is freed too.
 fn search_book(rt: &(impl Abort + AllocGlobal), book: &mut Book) {
     let class = class_of(2048).expect(rt, "a class");
     fill_book(book);

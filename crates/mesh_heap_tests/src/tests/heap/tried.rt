@@ -1,4 +1,4 @@
-//! A heap and a book side by side. Their answers are compared with the expected ones.
+//! A heap and a book that get the same calls, whose answers are compared with the expected ones.
 
 use crate::tests::heap::books::TriedBook;
 use crate::tests::heap::calls::{Answer, Call, Told};
@@ -32,7 +32,7 @@ impl<'a, R: Abort + AllocGlobal> Tried<'a, R> {
         check_told(self.rt, told, answer, call, "a book");
     }
 
-    /// Asserts that calls are answered as expected, in order.
+    /// Asserts that the heap and the book answer each of these calls as expected, in order.
     pub(crate) fn play(&mut self, calls: &[(Call, Answer)]) {
         for (call, answer) in calls {
             self.check(*call, *answer);

@@ -1,4 +1,4 @@
-//! Indexes and views that tests search.
+//! Indexes of spans, and their views, for tests of the search.
 ghost use Rattle.std.specs.Prelude.{◌≡◌, ◌≤◌};
 ghost use Rattle.mesh_spans.specs.Index.{AreUnused};
 
@@ -8,14 +8,14 @@ use mesh_search::{ClassView, class_view};
 use mesh_spans::{Slot, Span, Spans};
 use std::process::Abort;
 
-/// The end of the virtual pages: the first number that is none.
+/// The number of virtual pages.
 const END: u32 = 65_536;
 
-/// The sizes of the ten classes, ascending.
+/// The slot sizes of the ten classes in bytes, in ascending order.
 pub(crate) static SIZES: [u32; 10] = [16, 32, 64, 128, 256, 384, 512, 1024, 1536, 2048];
 
-/// The views of the ten classes, ascending, of an index whose groups are of one class. Slot k of a group is occupied if
-/// bit k of its word is set.
+/// Returns the views of the ten classes, in ascending order, of an index whose groups all have one class. Slot k of a
+/// group is occupied if and only if bit k of the group's word is set.
 pub(crate) fn views_of(
     rt: &(impl Abort + AllocGlobal),
     size: u32,
@@ -27,7 +27,7 @@ pub(crate) fn views_of(
     )
 }
 
-/// The views of the ten classes of an index.
+/// Returns the views of the ten classes of an index, in ascending order.
 fn views_in(rt: &(impl Abort + AllocGlobal), spans: &Spans) -> Vec<ClassView> {
     let mut views = Vec::new(rt.alloc());
     for size in SIZES.iter() {
@@ -38,7 +38,7 @@ fn views_in(rt: &(impl Abort + AllocGlobal), spans: &Spans) -> Vec<ClassView> {
     views
 }
 
-/// An index with these groups of a class.
+/// Returns an index with groups of one class. Slot k of a group is occupied if and only if bit k of its word is set.
 fn index_of(rt: &(impl Abort + AllocGlobal), class: Class, groups: &[u32]) -> Spans {
     let mut spans = filled(rt, class, groups.len());
     for n in 0..groups.len() {
@@ -47,7 +47,7 @@ fn index_of(rt: &(impl Abort + AllocGlobal), class: Class, groups: &[u32]) -> Sp
     spans
 }
 
-/// An index that has `count` spans of a class, with an object in each slot.
+/// Returns an index with `count` spans of one class, each with an object in every slot.
 fn filled(rt: &(impl Abort + AllocGlobal), class: Class, count: usize) -> Spans {
     let mut spans = Spans::new(rt.alloc()).expect(rt, "memory");
     let mut next = 1;
@@ -58,7 +58,8 @@ fn filled(rt: &(impl Abort + AllocGlobal), class: Class, count: usize) -> Spans 
     spans
 }
 
-/// Adds a span at a virtual page, if there is room, and returns the page after it. All spans have one physical page.
+/// Adds a span at virtual page `next` if there is room, and returns the page after the span. All spans get the same
+/// physical page.
 fn add(rt: &impl Abort, spans: &mut Spans, class: Class, next: u32) -> u32
     requires some { 1 ≤ next }
     requires unused { AreUnused spans.old next }
@@ -76,7 +77,7 @@ fn add(rt: &impl Abort, spans: &mut Spans, class: Class, next: u32) -> u32
     end
 }
 
-/// Fills the slots of one span.
+/// Puts objects into all slots of one span.
 fn fill(spans: &mut Spans, class: Class)
     ensures { spans.new.spans ≡ spans.old.spans }
 {

@@ -1,4 +1,4 @@
-//! The split search over an order of group numbers.
+//! A test of the split search on candidates that are given by their group numbers.
 ghost use Rattle.std.specs.Prelude.{◌≡◌, ◌<◌, ◌∷◌, [], IfOk};
 ghost use Rattle.mesh_search.specs.Views.{AreNamed, IsCandidate};
 
@@ -20,7 +20,7 @@ fn candidate(number: u32, slot: u32) -> Candidate
     Candidate::new(number, occupied)
 }
 
-/// The worked view of the class 2048.
+/// Returns the worked example's view of the class 2048: the groups 2, 0, 3 and 1.
 fn worked_view(alloc: Global, class: Class) -> Result<ClassView, AllocError>
     requires { class ≡ 2048 }
     ensures { IfOk result (λ view. AreNamed view (2 ∷ 0 ∷ 3 ∷ 1 ∷ [])) }

@@ -1,4 +1,4 @@
-//! Searches by workers, compared with searches on one thread.
+//! Tests that compare searches by several workers with searches on one thread.
 ghost use Rattle.std.specs.Prelude.{◌≤◌};
 
 use crate::tests::search::indexes::{SIZES, views_of};
@@ -15,7 +15,7 @@ use std::thread;
 use std::thread::Threads;
 use std::time::Duration;
 
-/// Whether a search by workers finds in each view what a search on one thread finds.
+/// Whether a search by `workers` workers finds the same in each view as a search on one thread.
 fn agrees<R: Threads + Wait + Sync + Abort + AllocGlobal>(
     rt: &R,
     views: &[ClassView],
@@ -30,7 +30,7 @@ fn agrees<R: Threads + Wait + Sync + Abort + AllocGlobal>(
     are_found_by_one(rt, found.as_slice(), views, words, t)
 }
 
-/// Whether a search on one thread finds these results, one for each view.
+/// Whether a search of each view on one thread finds the result at the view's place in `found`.
 fn are_found_by_one(
     rt: &(impl Abort + AllocGlobal),
     found: &[Found],
@@ -49,7 +49,7 @@ fn are_found_by_one(
     true
 }
 
-/// Whether a search of a view on one thread finds this result.
+/// Whether a search of this view on one thread finds this result.
 fn is_found_by_one(
     rt: &(impl Abort + AllocGlobal),
     found: &Found,
@@ -69,8 +69,8 @@ fn workers_find_the_worked_pairs(rt: HostRuntime) {
     }
 }
 
-/// Asserts that one worker, three and sixteen find what a search on one thread finds, with the words of the worked
-/// searches.
+/// Asserts that one, three and sixteen workers find the same as a search on one thread, with the words of the worked
+/// examples.
 fn check_agreement<R: Threads + Wait + Sync + Abort + AllocGlobal>(
     rt: &R,
     views: &[ClassView],
@@ -82,7 +82,7 @@ fn check_agreement<R: Threads + Wait + Sync + Abort + AllocGlobal>(
     assert!(rt; one && three && most, "in {t} rounds");
 }
 
-/// Returns random words.
+/// Returns `count` random words.
 fn words_of(
     rt: &(impl Abort + AllocGlobal),
     random: &mut Xoshiro256PlusPlus,
@@ -95,13 +95,13 @@ fn words_of(
     words
 }
 
-/// How many words each list of a comparison has, and the most groups that are searched: enough that the parts of a
-/// round have several tries.
+/// The number of words of each random case. `MAX_GROUPS` is the greatest number of groups, enough for several tries in
+/// each part of a round.
 const WORDS_OF_A_LIST: u32 = 256;
 
 const MAX_GROUPS: u32 = 160;
 
-/// The views of groups of 16 slots, with few or with many objects. The number of groups is random, up to a maximum.
+/// Returns views of a random number of groups, at most `MAX_GROUPS`. Each group has 16 slots with few or many objects.
 fn random_views(
     rt: &(impl Abort + AllocGlobal),
     random: &mut Xoshiro256PlusPlus,
@@ -113,7 +113,7 @@ fn random_views(
     views_of(rt, 256, groups.as_slice())
 }
 
-/// The word of a group with few or with many objects.
+/// Returns a random word whose bits are the occupied slots of a group, few of them or many.
 fn random_group(random: &mut Xoshiro256PlusPlus) -> u32 {
     let few = random.next_u32() & random.next_u32() & random.next_u32();
     let many = random.next_u32() & random.next_u32();
@@ -134,8 +134,7 @@ fn workers_find_what_one_thread_finds(rt: HostRuntime) {
     assert!(&rt; most > 64, "no list of more than {most} candidates");
 }
 
-/// Asserts that workers find in random views what a search on one thread finds, and returns how many candidates there
-/// are.
+/// Asserts that workers find the same in random views as a search on one thread, and returns the number of candidates.
 fn check_list<R: Threads + Wait + Sync + Abort + AllocGlobal>(
     rt: &R,
     random: &mut Xoshiro256PlusPlus,
@@ -149,7 +148,7 @@ fn check_list<R: Threads + Wait + Sync + Abort + AllocGlobal>(
     own[0].len()
 }
 
-/// Asserts that any number of workers finds what a search on one thread finds.
+/// Asserts that any number of workers from 1 to 16 finds the same as a search on one thread.
 fn check_workers<R: Threads + Wait + Sync + Abort + AllocGlobal>(
     rt: &R,
     views: &[ClassView],
@@ -165,12 +164,13 @@ fn check_workers<R: Threads + Wait + Sync + Abort + AllocGlobal>(
     }
 }
 
-/// How many searchers are counted, and the bits of one count. There is a count for each searcher and class.
+/// The number of searchers whose arrivals are counted. `COUNT_BITS` is the number of bits of one count. Each searcher
+/// has one count for each class.
 const COUNTED: u32 = 2;
 
 const COUNT_BITS: u32 = 3;
 
-/// A gate that counts how often each of two searchers arrives at each class.
+/// A gate that counts the arrivals of each of two searchers at each class.
 #[derive(Drop)]
 struct Arrivals {
     counts: AtomicU64,
@@ -179,7 +179,7 @@ struct Arrivals {
 }
 
 impl Arrivals {
-    /// The counts. `None` if an arrival couldn't be counted.
+    /// Returns the counts, or `None` if there was an arrival that the gate doesn't count.
     fn counted(&self) -> Option<u64> {
         if self.strange.load(SeqCst) {
             return None;
@@ -188,7 +188,7 @@ impl Arrivals {
     }
 }
 
-/// The place by size of the class with a size.
+/// Returns the place, in ascending order, of the class with this slot size.
 fn place_of(size: u32) -> Option<u32> {
     SIZES
         .iter()
@@ -212,7 +212,7 @@ impl Gate for Arrivals {
     }
 }
 
-/// One arrival of each of two searchers at each of these places.
+/// The counts after each of two searchers has arrived once at each of these places.
 fn once_each(places: &[u32]) -> u64 {
     let mut counts = 0u64;
     for place in places.iter() {
@@ -234,7 +234,8 @@ fn each_searcher_arrives_once_at_each_class(rt: HostRuntime) {
     check_arrivals(&rt, all.get(9..10).expect(&rt, "a class"), 2, &[9]);
 }
 
-/// Asserts that in a search of views by two searchers each arrives once at each of these places, and nowhere else.
+/// Asserts that in a search of views by two searchers each of them arrives once at each of these places, and nowhere
+/// else.
 fn check_arrivals<R: Threads + Wait + Sync + Abort + AllocGlobal>(
     rt: &R,
     views: &[ClassView],
@@ -249,17 +250,17 @@ fn check_arrivals<R: Threads + Wait + Sync + Abort + AllocGlobal>(
     check_counts(rt, gate.counted(), once_each(places), t, places.len());
 }
 
-/// Asserts that a gate counted as expected at the given number of classes.
+/// Asserts that a gate counted the expected arrivals.
 fn check_counts(rt: &impl Abort, counted: Option<u64>, counts: u64, t: u32, classes: usize) {
     assert_eq!(rt; counted, Some(counts), "in {t} rounds of {classes} views");
 }
 
-/// How often a waiting searcher checks again, and how many microseconds it sleeps before each check.
+/// The greatest number of checks of a waiting searcher. `TURN` is its sleep before each check, in microseconds.
 const TURNS: u32 = 1_000_000;
 
 const TURN: u64 = 10;
 
-/// A gate at which each of two searchers waits, at its first class, until the other one has arrived at its own.
+/// A gate at which each of two searchers waits at its first class until the other searcher has arrived too.
 #[derive(Drop)]
 struct Meeting<'a, R> {
     rt: &'a R,
@@ -270,7 +271,7 @@ struct Meeting<'a, R> {
 }
 
 impl<'a, R> Meeting<'a, R> {
-    /// Whether both searchers arrived, and neither gave up waiting.
+    /// Whether both searchers arrived, and neither gave up waiting for the other.
     fn has_been(&self) -> bool {
         self.first.load(SeqCst) && self.second.load(SeqCst) && !self.missed.load(SeqCst)
     }
@@ -309,7 +310,7 @@ fn two_searchers_are_there_at_once(rt: HostRuntime) {
     check_meeting(&rt, views.as_slice(), &gate);
 }
 
-/// Asserts that two searchers meet at a gate, and find the worked pairs.
+/// Asserts that two searchers meet at a gate, and that they find the pairs of the worked example.
 fn check_meeting<R: Threads + Wait + Sync + Abort + AllocGlobal + Clock>(
     rt: &R,
     views: &[ClassView],
@@ -320,7 +321,7 @@ fn check_meeting<R: Threads + Wait + Sync + Abort + AllocGlobal + Clock>(
     check_worked(rt, found.as_slice());
 }
 
-/// Asserts that the last of ten searches found the worked pairs.
+/// Asserts that the last of ten searches found the pairs of the worked example.
 fn check_worked(rt: &impl Abort, found: &[Found]) {
     check_count(rt, found.len(), 10);
     assert!(rt; has_found(&found[9], &[pair(1, 2), pair(3, 0)], 4));

@@ -1,17 +1,18 @@
-//! The worked views and their searches, by calls.
+//! The worked examples of searches, by calls of the search.
 ghost use Rattle.std.specs.Prelude.{◌≡◌};
 
 use crate::tests::search::indexes::views_of;
 use mesh_search::{ClassView, Found, Pair, part, search_one, shuffle};
 use std::process::Abort;
 
-/// Four groups of the class 2048: of eight objects the second, fourth, fifth and seventh are freed.
+/// The occupied slots of four groups of the class 2048. Of eight objects the second, fourth, fifth and seventh are
+/// freed.
 pub(crate) static WORKED: [u32; 4] = [0b01, 0b01, 0b10, 0b10];
 
-/// The words of the worked searches.
+/// The random words of the worked searches.
 pub(crate) static WORDS: [u64; 3] = [2, 0, 5];
 
-/// Two groups, source first.
+/// Returns a pair of two group numbers, source first.
 pub(crate) fn pair(source: u32, destination: u32) -> Pair {
     Pair {
         source,
@@ -30,7 +31,7 @@ fn four_are_shuffled(rt: HostRuntime) {
     check_order(&rt, order.as_slice());
 }
 
-/// Asserts that four places are in their worked order.
+/// Asserts that the shuffled places are 2, 0, 3 and 1.
 fn check_order(rt: &impl Abort, order: &[u32]) {
     assert_eq!(rt; order, [2, 0, 3, 1].as_slice());
 }
@@ -53,7 +54,7 @@ pub(crate) fn check_count(rt: &impl Abort, count: usize, wanted: usize)
     assert_eq!(rt; count, wanted);
 }
 
-/// Asserts that of the ten views the last one has the four groups, and the others have none.
+/// Asserts that the last of ten views has the four groups, and that the others are empty.
 fn check_views(rt: &impl Abort, views: &[ClassView]) {
     check_count(rt, views.len(), 10);
     for k in 0..views.len() {
@@ -61,7 +62,7 @@ fn check_views(rt: &impl Abort, views: &[ClassView]) {
     }
 }
 
-/// Asserts that a view has `count` candidates, and that their numbers ascend from 0.
+/// Asserts that a view has `count` candidates, numbered from 0 in ascending order.
 fn check_numbers(rt: &impl Abort, view: &ClassView, count: usize) {
     check_count(rt, view.len(), count);
     for i in 0..view.len() {
@@ -69,8 +70,7 @@ fn check_numbers(rt: &impl Abort, view: &ClassView, count: usize) {
     }
 }
 
-/// Asserts which pairs a search finds, and by how many tries, in the view at a place of ten views, with a number of
-/// rounds and these words.
+/// Asserts the pairs that a search finds in one of ten views in `t` rounds, and the number of its tries.
 fn check(
     rt: &(impl Abort + AllocGlobal),
     views: &[ClassView],
@@ -95,7 +95,7 @@ fn worked_pairs_are_found(rt: HostRuntime) {
     check_worked(&rt, views.as_slice());
 }
 
-/// Asserts what the worked searches of the views of the four groups find.
+/// Asserts the results of the worked searches in the views of the four groups.
 fn check_worked(rt: &(impl Abort + AllocGlobal), views: &[ClassView]) {
     check(rt, views, 9, &WORDS, 0, &[], 0);
     check(rt, views, 9, &WORDS, 1, &[], 2);

@@ -1,4 +1,4 @@
-//! Devices that give or take one byte per call, and fail at some call, on a file with a mesh.
+//! Tests of replays whose devices transfer one byte per call, or fail at some call. The job has a mesh.
 ghost use Rattle.std.specs.Prelude.{◌≡◌, None, false};
 
 use crate::tests::check;
@@ -9,21 +9,21 @@ use mesh_run::{DeviceFault, Input, Output, Sink, Source, replay_run};
 use std::alloc::Global;
 use std::io;
 
-/// More calls than any run makes.
+/// A number of calls that no run reaches.
 const ENOUGH: usize = 1000;
 
-/// What a sink does once its calls are used up.
+/// The behaviour of a sink once its calls are used up.
 #[derive(Clone, Copy)]
 enum End {
     Fails,
     TakesNothing,
 }
 
-/// A sink that takes few bytes per call, until its calls are used up.
+/// A sink that accepts few bytes per call, until its calls are used up.
 #[derive(Drop)]
 struct SlowSink {
     taken: Vec<u8>,
-    /// The greatest number of bytes that it takes in one call. If it is 0, the sink takes one byte.
+    /// The greatest number of bytes that the sink accepts in one call. For 0 the sink accepts one byte.
     most: usize,
     calls: usize,
     end: End,
@@ -72,13 +72,13 @@ impl Sink for SlowSink {
     }
 }
 
-/// Replays a file from a slow source.
+/// Replays a file from a source that returns one byte per call.
 fn read_slowly(alloc: Global, file: &str, calls: usize) -> Ran {
     let input = SlowSource::new(file.as_bytes(), calls);
     replayed_from(alloc, input)
 }
 
-/// Replays the file to a slow sink.
+/// Replays a file with a mesh to a slow sink.
 fn write_slowly(alloc: Global, most: usize, calls: usize, end: End) -> Ran {
     let mut input = Input::new(MESH_FILE.as_bytes());
     let mut output = SlowSink::new(alloc, most, calls, end);
@@ -102,7 +102,7 @@ fn works_byte_by_byte(rt: HostRuntime) {
     check(&rt, goes, &run, "a byte a write");
 }
 
-/// A file whose second line has a fault. A source that fails does so before that line.
+/// A file with a fault in its second line. If the source fails, the read fault is reported instead of the file's fault.
 const FAULTY_FILE: &str = "mesh 1\npages 0\nhistory 1\n";
 
 #[test]
@@ -115,7 +115,7 @@ fn fails_at_each_read(rt: HostRuntime) {
     }
 }
 
-/// How many bytes a sink that fails at one of its calls takes per call.
+/// The number of bytes that a sink accepts per call before the call at which it fails.
 const PIECE: usize = 16;
 
 #[test]
@@ -129,8 +129,7 @@ fn fails_at_each_write(rt: HostRuntime) {
     }
 }
 
-/// A device that fails at its first call. As a reader it then gives one byte per call, and as a writer it then takes
-/// one byte per call.
+/// A device whose first call fails. After that call the device reads and writes one byte per call.
 #[derive(Drop)]
 struct FailsFirst<'a> {
     bytes: Bytes<'a>,

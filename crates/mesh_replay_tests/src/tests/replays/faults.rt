@@ -1,4 +1,4 @@
-//! Files that are no job.
+//! Tests of replays of files that are no jobs.
 use crate::tests::check;
 use crate::tests::replays::{history_of, replayed};
 use mesh_program_tests::memory::files::FIRST_FILE;
@@ -6,7 +6,7 @@ use mesh_program_tests::memory::{LENGTHS, ROW_END, faulty_files, fields, letters
 use std::process::Abort;
 use std::test::Fail;
 
-/// Neither answers nor a journal are printed.
+/// For each faulty file, neither answers nor a history are printed.
 #[test]
 fn tells_each_fault(rt: HostRuntime) {
     for row in faulty_files().split(ROW_END) {
@@ -18,7 +18,7 @@ fn tells_each_fault(rt: HostRuntime) {
     }
 }
 
-/// Asserts the fault of a file of `count` bytes `a`, with a line end or without one.
+/// Asserts the fault of a file that consists of `count` bytes `a`, and of a line end if `has_end` is set.
 fn check_length(
     rt: &(impl Abort + AllocGlobal),
     count: usize,

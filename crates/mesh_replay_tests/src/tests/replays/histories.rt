@@ -1,4 +1,4 @@
-//! The text of a history: its answers, and its recorded form.
+//! Tests of the texts of a history: its answers, and its recorded form.
 use crate::tests::check;
 use crate::tests::replays::{check_text, history_of};
 use mesh_mutator::{Command, Entry, Refusal, Reply};
@@ -57,8 +57,8 @@ fn a_history_is_recorded_in_its_order(rt: HostRuntime) -> Result<(), AllocError>
     Ok(())
 }
 
-/// Two workers. One command finds the journal full, one script is over when it is run again, and a report is in no
-/// journal.
+/// A job of two workers. One command finds the journal full, and one worker is run after the end of its script. The
+/// plan has a report, which no journal contains.
 const JOURNAL_FILE: &str =
     "mesh 1\npages 16\nhistory 4\nworkers 2\nworker 0\nnew 0 2048 0\nput 0 0 6869\nget 0 0 2\nworker 1\naddr 0\nfree 0\nplan\nrun 0\nrun 1\nreport\nrun 0\nrun 0\nrun 1\nrun 0\nend\n";
 

@@ -1,4 +1,4 @@
-//! The golden files.
+//! Tests with the golden files, and with long jobs.
 use crate::tests::replays::replayed;
 use mesh_program_tests::memory::files::{
     ABANDONED, CANCELS, MUTATORS, SEARCHES, SMALL_STEPS, VERSION_2, WHOLE_MESHES,
@@ -7,7 +7,7 @@ use mesh_program_tests::memory::{ROW_END, fields};
 use std::alloc::Global;
 use std::process::Abort;
 
-/// The name of the first row of a table whose answers are wrong, or `None` if all are right.
+/// Returns the name of the first row whose answers are wrong, or `None` if the answers of all rows are right.
 fn wrong_row(alloc: Global, table: &'static str) -> Option<&'static str> {
     for row in table.split(ROW_END) {
         let (name, file, answers) = fields(row);
@@ -37,7 +37,7 @@ fn answers_the_rows_of_each_subject(rt: HostRuntime) {
     }
 }
 
-/// How many lines the long plan has. Their answers are longer than one write.
+/// The number of lines of the long plan. Their answers need more than one write.
 const LONG_PLAN: usize = 4000;
 
 #[test]
@@ -55,16 +55,16 @@ fn answers_a_long_plan(rt: HostRuntime) {
     check(&rt, file.as_str(), answers.as_str());
 }
 
-/// Asserts the answers to a file.
+/// Asserts the answers to a job file.
 fn check(rt: &(impl Abort + AllocGlobal), file: &str, answers: &str) {
     let run = replayed(rt.alloc(), file.as_bytes());
     assert!(rt; run.wrote(answers.as_bytes(), "", 0));
 }
 
-/// How many spans of three pages use up all addresses except three pages.
+/// The number of spans of three pages that the long job makes. The spans use all addresses except those of three pages.
 const SPANS: u32 = 21_844;
 
-/// The number of bytes of a page. `SPAN_PAGES` is the number of pages of each of these spans.
+/// The number of bytes of a page. `SPAN_PAGES` is the number of pages of each of the `SPANS` spans.
 const PAGE_BYTES: u32 = 4096;
 
 const SPAN_PAGES: u32 = 3;
@@ -76,7 +76,8 @@ fn uses_up_all_addresses(rt: HostRuntime) {
     check(&rt, file.as_str(), answers.as_str());
 }
 
-/// The file in which each span is used and swept in turn.
+/// Returns a job that makes and frees an object in each of the `SPANS` spans, and sweeps the span before the next one
+/// is made. Then an object gets the last addresses, and another object is refused.
 fn file_of_all(rt: &(impl Abort + AllocGlobal)) -> String {
     let mut file = text_of(rt, "mesh 1\npages 4\nhistory 65536\nworkers 1\nworker 0\n");
     for _ in 0..SPANS {
@@ -94,7 +95,7 @@ fn file_of_all(rt: &(impl Abort + AllocGlobal)) -> String {
     file
 }
 
-/// The answer lines to that file.
+/// Returns the expected answers to the job of `file_of_all`.
 fn answers_of_all(rt: &(impl Abort + AllocGlobal)) -> String {
     let mut answers = text_of(rt, "");
     for group in 0..SPANS {
@@ -109,7 +110,7 @@ fn answers_of_all(rt: &(impl Abort + AllocGlobal)) -> String {
     answers
 }
 
-/// A text with this beginning.
+/// Returns a text that begins with `front`.
 fn text_of(rt: &(impl Abort + AllocGlobal), front: &str) -> String {
     String::from_str(rt.alloc(), front).expect(rt, "memory")
 }

@@ -1,4 +1,4 @@
-//! Commands and their replies as plain values, for tables of cases.
+//! Commands and replies as plain values, for the tables of the tests.
 ghost use Rattle.std.specs.Prelude.{◌≡◌, ◌≤◌};
 ghost use Rattle.model_words.specs.Commands.{IsInRange};
 
@@ -37,7 +37,7 @@ pub(crate) enum Answer {
     Refused(Refusal),
 }
 
-/// Two groups of class 2,048 with one object each, in the cells 1 and 2.
+/// Calls that make two groups of the class 2,048 with one object each. The cells 1 and 2 name the two objects.
 pub(crate) const GROUPS: &[Call] = &[
     Call::New(0, 2048),
     Call::New(1, 2048),
@@ -47,7 +47,7 @@ pub(crate) const GROUPS: &[Call] = &[
     Call::Free(3),
 ];
 
-/// The command of a call.
+/// Returns the command of a call. Asserts that a load, store or copy has 1 to 32 bytes.
 pub(crate) fn command_of(rt: &impl Abort, call: Call) -> Command
     ensures { IsInRange result }
 {
@@ -66,7 +66,7 @@ pub(crate) fn command_of(rt: &impl Abort, call: Call) -> Command
     }
 }
 
-/// A number of bytes that a command loads or copies, checked to be 1 to 32.
+/// Returns the number of bytes that a command loads or copies. Asserts that the number is 1 to 32.
 fn checked(rt: &impl Abort, len: u32) -> u32
     ensures same { result ≡ len }
     ensures some { 1 ≤ result }
@@ -76,7 +76,7 @@ fn checked(rt: &impl Abort, len: u32) -> u32
     len
 }
 
-/// A store of 1 to 32 bytes.
+/// Returns a store of 1 to 32 bytes. Asserts that there are so many.
 fn put(rt: &impl Abort, cell: u8, off: u32, bytes: &[u8]) -> Command
     ensures { IsInRange result }
 {
@@ -88,7 +88,7 @@ fn put(rt: &impl Abort, cell: u8, off: u32, bytes: &[u8]) -> Command
     Command::Put(cell, off, bytes_of(rt, bytes))
 }
 
-/// The reply of an answer.
+/// Returns the reply of an answer.
 pub(crate) fn reply_of(rt: &impl Abort, answer: Answer) -> Reply {
     match answer {
         Answer::Object(serial, addr) => Reply::Object(serial, addr),
@@ -100,7 +100,7 @@ pub(crate) fn reply_of(rt: &impl Abort, answer: Answer) -> Reply {
     }
 }
 
-/// At most 32 bytes, in the type that a command stores and a reply loads.
+/// Returns bytes in the type that commands and replies contain. Asserts that there are at most 32.
 fn bytes_of(rt: &impl Abort, bytes: &[u8]) -> ArrayVec<u8, MAX_BYTES>
     ensures { result.items ≡ bytes.now }
 {

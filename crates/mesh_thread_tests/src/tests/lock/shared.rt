@@ -1,4 +1,4 @@
-//! Seats, settled histories and threads that share a book.
+//! Tests of a shared book: its seats, its settled history, and threads that use it.
 ghost use Rattle.std.specs.Prelude.{◌≤◌, length};
 ghost use Rattle.model_words.specs.Commands.{IsInRange};
 
@@ -20,7 +20,8 @@ use std::thread;
 use std::thread::{Threads, join};
 use std::time::Duration;
 
-/// A book with this number of pages and room for this number of entries, behind a lock, with a seat for each count.
+/// Returns a book with this number of pages and a journal of this capacity, behind a lock. The book has one seat for
+/// each of the counts, and a seat has room for so many calls.
 fn opened(
     rt: &(impl Abort + AllocGlobal),
     pages: u32,
@@ -55,7 +56,7 @@ enum Usage {
 }
 
 impl Usage {
-    /// How many calls each seat has room for.
+    /// The number of calls that each seat has room for, by seat.
     fn counts(self) -> &'static [usize]
         ensures some { 1 ≤ length result.now }
         ensures few { length result.now ≤ 64 }
@@ -68,7 +69,7 @@ impl Usage {
         }
     }
 
-    /// Uses the book.
+    /// Uses the book in this way.
     fn of<R: Abort + Clock + Threads + Wait + Sync>(
         self,
         rt: &R,
@@ -97,7 +98,7 @@ struct Closed {
     report: Report,
 }
 
-/// Opens a book with this number of pages and room for this number of entries, uses it, and finishes it.
+/// Opens a book with this number of pages and a journal of this capacity, uses it, and finishes it.
 fn used<R: Abort + AllocGlobal + Clock + Threads + Wait + Sync>(
     rt: &R,
     pages: u32,
@@ -113,7 +114,7 @@ fn used<R: Abort + AllocGlobal + Clock + Threads + Wait + Sync>(
     finished(rt, shared, seats)
 }
 
-/// Finishes a book.
+/// Finishes a book. Asserts that the result is a history.
 fn finished(rt: &(impl Abort + AllocGlobal), shared: Shared, seats: Vec<Seat>) -> Closed {
     let ended = shared.finish(rt.alloc(), seats).expect(rt, "a history");
     Closed {
@@ -122,21 +123,21 @@ fn finished(rt: &(impl Abort + AllocGlobal), shared: Shared, seats: Vec<Seat>) -
     }
 }
 
-/// A `New` of a cell.
+/// Returns a `New` of 2,048 bytes in a cell.
 fn new_object(cell: u8) -> Command
     ensures { IsInRange result }
 {
     Command::New(cell, 2048, 0)
 }
 
-/// A `Get` of the first two bytes of a cell's object.
+/// Returns a `Get` of the first two bytes of the object that a cell names.
 fn get_bytes(cell: u8) -> Command
     ensures { IsInRange result }
 {
     Command::Get(cell, 0, 2)
 }
 
-/// A thread's work: an object, its bytes, and whether they are read back.
+/// The work of one thread: makes an object, stores two bytes, and returns whether a load returns them.
 fn works<R: Wait>(rt: &R, shared: &Shared, seat: &mut Seat, cell: u8) -> bool {
     let mut bytes = ArrayVec::new();
     bytes.push(0x68);
@@ -149,7 +150,7 @@ fn works<R: Wait>(rt: &R, shared: &Shared, seat: &mut Seat, cell: u8) -> bool {
     }
 }
 
-/// Runs two threads at the same time.
+/// Runs the work of two threads at the same time, and asserts that both succeed.
 fn work_beside<R: Abort + Threads + Wait + Sync>(
     rt: &R,
     shared: &Shared,
@@ -169,7 +170,7 @@ fn two_threads_share_a_book(rt: HostRuntime) {
     check_count(&rt, used(&rt, 16, 64, Usage::Threads).entries, 6);
 }
 
-/// Asserts that a command of a seat is done and has this answer.
+/// Asserts that a command of a seat is done with this answer.
 fn check(
     rt: &(impl Abort + Wait),
     shared: &Shared,
@@ -184,7 +185,7 @@ fn check(
     assert!(rt; attempt == wanted, "of {command:?}, {name}");
 }
 
-/// Which of two books is asked.
+/// The book that a call of a test goes to.
 #[derive(Clone, Copy)]
 enum Asked {
     // The one that is finished.
@@ -193,18 +194,19 @@ enum Asked {
     Other,
 }
 
-/// One call before a book is finished: which book it goes to, the place of the seat, and the call with its answer. The
-/// seats of the book that is finished have the places 0 and 1; those of the other book have the places from 2 on.
+/// One call before a book is finished: the book that the call goes to, the place of the seat that makes it, and the
+/// call with its answer. The finished book's seats have the places 0 and 1, the other book's seats the places from 2
+/// on.
 type Turn = (Asked, usize, (Call, Answer));
 
-/// An object made in cell 0, the first of its book.
+/// A `New` in cell 0 as the first call of a book, with its answer.
 const MADE: (Call, Answer) = (Call::New(0, 2048), Answer::Object(0, 0x1000));
 
-/// A read of its first bytes.
+/// A load of the first two bytes of the object in cell 0, with its answer.
 const READ: (Call, Answer) = (Call::Get(0, 0, 2), Answer::Bytes(&[0, 0]));
 
-/// Cases by name: the calls before a book is finished, the places of the seats that are passed in, and the fault that
-/// is reported.
+/// Cases by name: the calls before a book is finished, the places of the seats that `finish` gets, and the fault that
+/// it returns.
 static MISFITS: [(&str, &[Turn], &[usize], FinishError); 7] = [
     (
         "an entry of no call of seat 0",
@@ -245,7 +247,7 @@ static MISFITS: [(&str, &[Turn], &[usize], FinishError); 7] = [
     ),
 ];
 
-/// The seats of two books in one list of places.
+/// Returns the seats of two books in one list, in which each seat's index is its place.
 fn placed(rt: &(impl Abort + AllocGlobal), own: Vec<Seat>, other: Vec<Seat>) -> Vec<Option<Seat>> {
     let mut places = Vec::new(rt.alloc());
     add_seats(rt, &mut places, own);
@@ -278,7 +280,7 @@ fn take_turn(
     check(rt, book, seat.expect(rt, "a seat"), *call, *answer, name);
 }
 
-/// Takes the seats of these places.
+/// Removes the seats at these places from the list, and returns them. Asserts that there is a seat at each place.
 fn taken(
     rt: &(impl Abort + AllocGlobal),
     places: &mut [Option<Seat>],
@@ -292,7 +294,7 @@ fn taken(
     seats
 }
 
-/// The fault that is reported when these seats are passed in after these turns.
+/// Returns the fault of `finish` if it gets the seats at these places after these turns.
 fn told(
     rt: &(impl Abort + AllocGlobal + Wait),
     turns: &[Turn],
@@ -309,7 +311,7 @@ fn told(
     fault_of(rt, own, seats)
 }
 
-/// The fault that is reported when a book is finished with these seats.
+/// Returns the fault with which a book refuses to be finished with these seats. Asserts that there is one.
 fn fault_of(rt: &(impl Abort + AllocGlobal), shared: Shared, seats: Vec<Seat>) -> FinishError {
     let ended = shared.finish(rt.alloc(), seats);
     ended.err().expect(rt, "a fault")
@@ -323,14 +325,14 @@ fn seats_that_do_not_fit_are_told(rt: HostRuntime) {
     }
 }
 
-/// An object, an alias of it, and a read through the alias.
+/// Calls that make an object, name it by a second cell, and load its bytes by that cell.
 static ALIASED: [(Call, Answer); 3] = [
     (Call::New(0, 2048), Answer::Object(0, 0x1000)),
     (Call::Alias(1, 0), Answer::Done),
     (Call::Get(1, 0, 2), Answer::Bytes(&[0, 0])),
 ];
 
-/// Reads an object through its alias.
+/// Asserts that a seat gets the expected answers to the calls of `ALIASED`.
 fn read_by_alias(rt: &(impl Abort + Wait), shared: &Shared, seat: &mut Seat) {
     for (call, answer) in ALIASED.iter() {
         check(rt, shared, seat, *call, *answer, "an alias");
@@ -342,7 +344,7 @@ fn reads_come_into_the_history(rt: HostRuntime) {
     check_count(&rt, used(&rt, 16, 64, Usage::Alias).entries, 3);
 }
 
-/// Prepares a book for a mesher: two groups of class 2,048, each with one object.
+/// Makes two groups of the class 2,048, each with one object, for a mesher.
 fn set_up(rt: &(impl Abort + Wait), shared: &Shared, seat: &mut Seat) -> Class {
     for call in GROUPS.iter() {
         shared.call(rt, seat, &command_of(rt, *call));
@@ -372,8 +374,8 @@ impl Meshing {
     }
 }
 
-/// The result of a mesher's call under the lock: for a step its kind, and the steps to come or the pages that were
-/// freed.
+/// Makes a mesher's call under the lock. Returns the kind of a step, or `None` for another call, and the number of
+/// steps left, or of pages freed.
 fn meshed(
     rt: &impl Wait,
     shared: &Shared,
@@ -392,7 +394,7 @@ fn meshed(
     }
 }
 
-/// A mesh that is begun and cancelled.
+/// The calls of a mesh that is begun and cancelled, with their results.
 static CANCELLED: [(Meshing, Option<StepKind>, u32); 4] = [
     (Meshing::Begin(1, 0), None, 6),
     (Meshing::Step, Some(StepKind::Protect), 5),
@@ -400,10 +402,10 @@ static CANCELLED: [(Meshing, Option<StepKind>, u32); 4] = [
     (Meshing::Step, Some(StepKind::Unprotect), 0),
 ];
 
-/// An empty group that is swept: one page is freed.
+/// The sweep of an empty group, which frees one page.
 static SWEPT: [(Meshing, Option<StepKind>, u32); 1] = [(Meshing::Sweep(0), None, 1)];
 
-/// Asserts that a mesher's calls, one after another and each under the lock, have these results.
+/// Asserts that a mesher's calls have the expected results. Each call takes the lock for itself.
 fn play(
     rt: &(impl Abort + Wait),
     shared: &Shared,
@@ -416,7 +418,7 @@ fn play(
     }
 }
 
-/// Whether group 1 is the only one that may be paired.
+/// Whether group 1 is the only candidate of a search.
 fn has_one_group<R: Wait>(
     rt: &R,
     alloc: Global,
@@ -427,7 +429,7 @@ fn has_one_group<R: Wait>(
     Ok(view.len() == 1 && view.number(0) == 1)
 }
 
-/// Begins a mesh and cancels it, then sweeps the group that has become empty.
+/// Begins and cancels a mesh, then empties a group and sweeps it.
 fn take_the_lock(rt: &(impl Abort + Wait), alloc: Global, shared: &Shared, seat: &mut Seat) {
     let class = set_up(rt, shared, seat);
     play(rt, shared, class, &CANCELLED);
@@ -450,7 +452,7 @@ fn a_mesher_takes_the_lock(rt: HostRuntime) {
     check_that(&rt, closed.report == report, "one object is left");
 }
 
-/// Stores into the object of a read-only page.
+/// Stores into an object on a read-only page, and asserts that the store is blocked.
 fn hold_back(rt: &(impl Abort + Wait), shared: &Shared, seat: &mut Seat) {
     let class = set_up(rt, shared, seat);
     let before = shared.book.read(rt).running(class);
@@ -468,14 +470,14 @@ fn a_call_tells_that_it_is_held_back(rt: HostRuntime) {
     check_count(&rt, used(&rt, 16, 64, Usage::HeldBack).entries, 6);
 }
 
-/// Three objects of half a page.
+/// Three objects of half a page in an arena of one page: the third one is refused.
 static HALF_PAGES: [(Call, Answer); 3] = [
     (Call::New(0, 2048), Answer::Object(0, 0x1000)),
     (Call::New(1, 2048), Answer::Object(1, 0x1800)),
     (Call::New(2, 2048), Answer::Refused(Refusal::NoPages)),
 ];
 
-/// Makes one call more than there is room for.
+/// Makes one call more than the journal has room for.
 fn fill(rt: &(impl Abort + Wait), shared: &Shared, seat: &mut Seat) {
     for (call, answer) in HALF_PAGES.iter() {
         check(rt, shared, seat, *call, *answer, "one page");
@@ -490,12 +492,13 @@ fn the_book_is_the_one_handed_in(rt: HostRuntime) {
     check_count(&rt, used(&rt, 1, 3, Usage::Full).entries, 3);
 }
 
-/// How often a reader checks for the other one. After each check it sleeps for `TURN` microseconds.
+/// The greatest number of times that a reader checks whether the other reader came. `TURN` is its sleep after each
+/// check, in microseconds.
 const TURNS: u32 = 1_000_000;
 
 const TURN: u64 = 10;
 
-/// Takes the shared lock and keeps it until the other reader has it too. Returns whether the other reader came.
+/// Takes the lock for reading and keeps it until another reader has it too. Returns whether the other reader came.
 fn meets<R: Clock + Wait>(rt: &R, shared: &Shared, own: &AtomicBool, other: &AtomicBool) -> bool {
     let book = shared.book.read(rt);
     own.store(true, SeqCst);
@@ -508,7 +511,7 @@ fn meets<R: Clock + Wait>(rt: &R, shared: &Shared, own: &AtomicBool, other: &Ato
     false
 }
 
-/// Runs two readers that hold the lock at once.
+/// Runs two readers, and asserts that both have the lock at the same time.
 fn meet<R: Abort + Clock + Threads + Wait + Sync>(rt: &R, shared: &Shared) {
     let first = AtomicBool::new(false);
     let second = AtomicBool::new(false);

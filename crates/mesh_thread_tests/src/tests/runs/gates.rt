@@ -8,7 +8,7 @@ use std::sync::atomic::Ordering::SeqCst;
 use std::thread;
 use std::time::Duration;
 
-/// How often a stopped thread checks again. Before each check it sleeps for `TURN` microseconds.
+/// The greatest number of checks of a stopped thread. `TURN` is its sleep before each check, in microseconds.
 const TURNS: u32 = 1_000_000;
 
 const TURN: u64 = 10;
@@ -61,13 +61,13 @@ impl Mark {
     }
 }
 
-/// An actor that arrives at the first event is stopped until the others have occurred. The first actor there is stopped
-/// at least for this number of turns.
+/// A rule that stops each actor at the first event until all events of the list have occurred. The first actor that
+/// arrives there is stopped for at least this number of turns.
 #[derive(Clone, Copy)]
 pub(crate) struct Hold(pub Event, pub &'static [Event], pub u32);
 
-/// A gate that stops threads. It records whether a thread waited in vain, or an event occurred before another one that
-/// it needs.
+/// A gate that stops threads. It records a fault if a thread waited in vain, or if an event occurred before an event
+/// that had to come first.
 #[derive(Drop)]
 pub(crate) struct Holding<'a, R> {
     rt: &'a R,
@@ -79,7 +79,7 @@ pub(crate) struct Holding<'a, R> {
 }
 
 impl<'a, R: Clock> Holding<'a, R> {
-    /// A gate with a mark for each event that a hold or an order waits for.
+    /// Returns a gate. `marks` must contain each event that a hold or an order waits for.
     pub(crate) fn new(
         rt: &'a R,
         marks: &'a [Mark],
@@ -95,7 +95,7 @@ impl<'a, R: Clock> Holding<'a, R> {
         }
     }
 
-    /// Whether all marked events have occurred, none was waited for in vain, and none occurred too early.
+    /// Whether all marked events have occurred, no thread waited in vain, and no event occurred too early.
     pub(crate) fn went_well(&self) -> bool {
         let mut all = true;
         for mark in self.marks {
@@ -104,7 +104,8 @@ impl<'a, R: Clock> Holding<'a, R> {
         all && !self.missed.load(SeqCst)
     }
 
-    /// Records an event, and returns whether it is its first time. An event without a mark has no first time.
+    /// Records an event, and returns whether it occurred for the first time. Returns `false` for an event without a
+    /// mark.
     fn is_first(&self, event: Event) -> bool {
         for mark in self.marks {
             if mark.event == event {
@@ -131,7 +132,7 @@ impl<'a, R: Clock> Holding<'a, R> {
         all
     }
 
-    /// Records an event that occurs before another one that it needs.
+    /// Records a fault if an event occurs before an event that had to come first.
     fn note_order(&self, event: Event) {
         for order in self.orders {
             if order.0 == event && !self.has_been(order.1) {
@@ -140,7 +141,7 @@ impl<'a, R: Clock> Holding<'a, R> {
         }
     }
 
-    /// Stops an actor that arrived at an event, as the holds for that event require.
+    /// Stops an actor that arrived at an event, as each rule for that event requires.
     fn hold(&self, event: Event, first: bool) {
         for Hold(at, until, turns) in self.holds {
             if *at == event {
@@ -149,7 +150,7 @@ impl<'a, R: Clock> Holding<'a, R> {
         }
     }
 
-    /// Waits for the events, and at least for this number of turns.
+    /// Waits until all these events have occurred, for at least this number of turns and at most `TURNS`.
     fn wait_for(&self, events: &[Event], turns: u32) {
         for turn in 0..TURNS {
             if turn >= turns && self.have_been(events) {

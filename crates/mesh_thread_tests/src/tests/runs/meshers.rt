@@ -1,4 +1,4 @@
-//! Scripts on threads with running meshers, stopped at points by a gate.
+//! Tests of scripts on threads with running meshers. A gate stops the threads at chosen points.
 ghost use Rattle.std.specs.Prelude.{◌≡◌, ◌≤◌, length};
 ghost use Rattle.std.specs.List.{All};
 ghost use Rattle.model_words.specs.Commands.{IsInRange};
@@ -31,7 +31,7 @@ enum Part {
     Read(u8, u32),
 }
 
-/// The script of these parts, one after another.
+/// Returns the script that consists of these parts, in order.
 fn script_of(rt: &(impl Abort + AllocGlobal), parts: &[Part]) -> Commands {
     let mut script = Commands::new(rt.alloc());
     for part in parts {
@@ -62,7 +62,7 @@ fn add_part(rt: &impl Abort, script: &mut Commands, part: Part) {
     }
 }
 
-/// A store of an object's first byte.
+/// Returns a store of the first byte of the object that a cell names.
 fn put(cell: u8, byte: u8) -> Command
     ensures { IsInRange result }
 {
@@ -71,21 +71,22 @@ fn put(cell: u8, byte: u8) -> Command
     Command::Put(cell, 0, bytes)
 }
 
-/// One script, in the form that a run takes.
+/// Returns one script in the type that a run expects.
 fn alone<'a>(script: &'a Commands) -> [&'a [Command]; 1]
     ensures { All (λ script. All IsInRange script.now) result }
 {
     [script.as_slice()]
 }
 
-/// Two scripts, in the form that a run takes.
+/// Returns two scripts in the type that a run expects.
 fn both<'a>(first: &'a Commands, second: &'a Commands) -> [&'a [Command]; 2]
     ensures { All (λ script. All IsInRange script.now) result }
 {
     [first.as_slice(), second.as_slice()]
 }
 
-/// A plan with this number of rounds, searchers and meshers: one round of tries per search, all words 0.
+/// Returns a plan with this number of rounds, searchers and meshers. Each search makes one round of tries, and all its
+/// random words are 0.
 fn plan_of(rt: &impl AllocGlobal, rounds: u32, workers: u32, meshers: u32) -> MeshPlan
     ensures searchers { result.workers ≡ workers }
     ensures meshers { result.meshers ≡ meshers }
@@ -99,7 +100,7 @@ fn plan_of(rt: &impl AllocGlobal, rounds: u32, workers: u32, meshers: u32) -> Me
     }
 }
 
-/// A run of one or two scripts, and its expected course.
+/// A run of one or two scripts: the scripts, the stops, and the expected result.
 struct Course {
     // Each script in its parts.
     first: &'static [Part],
@@ -153,10 +154,10 @@ const ALONE: Course = Course {
     scale: USUAL,
 };
 
-/// How many attempts a worker makes when meshers are abandoned.
+/// The greatest number of attempts that a worker makes at a command if the meshers are abandoned.
 const TRIES: u32 = 10;
 
-/// The marks of these events.
+/// Returns a mark for each of these events.
 fn marks_of(rt: &(impl Abort + AllocGlobal), events: &[Event]) -> Vec<Mark> {
     let mut marks = Vec::new(rt.alloc());
     for event in events {
@@ -165,8 +166,8 @@ fn marks_of(rt: &(impl Abort + AllocGlobal), events: &[Event]) -> Vec<Mark> {
     marks
 }
 
-/// Runs the scripts of a course, and asserts that it goes as expected. Meshers may be abandoned after a number of
-/// calls.
+/// Runs the scripts of a course, asserts the expected course, and returns the result. If `calls` is a number, each
+/// mesher is abandoned after so many calls.
 fn ran<R: Abort + AllocGlobal + Clock + Threads + Wait + Sync>(
     rt: &R,
     course: &Course,
@@ -200,7 +201,7 @@ fn check_scale(rt: &impl Abort, scale: Scale)
     assert!(rt; scale.room <= 65_536, "room");
 }
 
-/// Runs scripts past a gate on a fresh book, and returns the result.
+/// Runs scripts with a gate on a fresh book, and returns the result.
 fn ran_past<R: Abort + AllocGlobal + Threads + Wait + Sync, G: Gate + Sync>(
     rt: &R,
     scale: Scale,
@@ -238,7 +239,7 @@ fn played<R: Abort + AllocGlobal + Clock + Threads + Wait + Sync>(
     }
 }
 
-/// How many entries of a history belong to a worker.
+/// Returns the number of a history's entries that belong to a worker.
 fn count_of(history: &[Entry], worker: u32) -> usize {
     history
         .iter()
@@ -246,7 +247,7 @@ fn count_of(history: &[Entry], worker: u32) -> usize {
         .count()
 }
 
-/// How many entries of a history are refused because there are no pages.
+/// Returns the number of a history's entries that are refused as `NoPages`.
 fn no_pages_count(history: &[Entry]) -> usize {
     history
         .iter()
@@ -254,7 +255,7 @@ fn no_pages_count(history: &[Entry]) -> usize {
         .count()
 }
 
-/// How many steps the mesh of a class of the heap still takes.
+/// Finishes the mesh of a class, and returns the number of steps that were left: 0 if no mesh runs.
 fn steps_left(heap: &mut Heap, size: u32) -> u32 {
     let Ok(class) = class_of(size) else {
         return 0;
@@ -267,10 +268,10 @@ fn steps_left(heap: &mut Heap, size: u32) -> u32 {
     1000
 }
 
-/// The size of each class.
+/// The slot sizes of the ten classes in bytes.
 static SIZES: [u32; 10] = [16, 32, 64, 128, 256, 384, 512, 1024, 1536, 2048];
 
-/// How many steps the meshes of all classes of the heap still take.
+/// Finishes the meshes of all classes, and returns the number of steps that were left.
 fn all_steps_left(heap: &mut Heap) -> u32 {
     let mut left = 0u32;
     for size in SIZES.iter() {
@@ -279,7 +280,7 @@ fn all_steps_left(heap: &mut Heap) -> u32 {
     left
 }
 
-/// Whether the first of the addresses contains this byte, and each other one a zero.
+/// Whether the byte at the first address is `front`, and the byte at each other address is zero.
 fn begins_with(heap: &Heap, addresses: Range<u32>, front: u8) -> bool {
     let mut wanted = front;
     for address in addresses {
@@ -291,7 +292,7 @@ fn begins_with(heap: &Heap, addresses: Range<u32>, front: u8) -> bool {
     true
 }
 
-/// Whether the objects of the cells 1 and 2 contain the bytes that `STORER` stores.
+/// Whether the objects of the cells 1 and 2 contain the bytes that the script `STORER` stores.
 fn keep_bytes(heap: &Heap) -> bool {
     begins_with(heap, 0x1800..0x2000, 0xab) && begins_with(heap, 0x2000..0x2800, 0xcd)
 }
@@ -312,12 +313,12 @@ struct Seen {
     steps_left: u32,
 }
 
-/// Examines the end of a run, and makes the steps that are left.
+/// Examines the history and the heap of a finished run, and finishes the meshes that are left.
 fn look_at(mut ended: Ended) -> Seen {
     seen_of(ended.history.as_slice(), &mut ended.heap)
 }
 
-/// Examines a run's history and heap, and makes the steps that are left.
+/// Examines a history and a heap, and finishes the heap's meshes.
 fn seen_of(history: &[Entry], heap: &mut Heap) -> Seen {
     let report = heap.report();
     let kept = keep_bytes(heap);
@@ -331,23 +332,24 @@ fn seen_of(history: &[Entry], heap: &mut Heap) -> Seen {
     }
 }
 
-/// Asserts how many entries of the history belong to the first script, and how many to the second.
+/// Asserts the number of the history's entries that belong to each of the two scripts.
 fn check_entries(rt: &impl Abort, seen: &Seen, wanted: (usize, usize)) {
     assert_eq!(rt; seen.entries, wanted);
 }
 
-/// Two groups of class 2,048 with one object each, in the cells 1 and 2, and four reads of the second object.
+/// A script that makes two groups of the class 2,048 with one object each, in the cells 1 and 2, and then reads the
+/// second object four times.
 const READER: &[Part] = &[
     Part::Made(0, 4, 2048),
     Part::Freed(&[0, 3]),
     Part::Read(2, 4),
 ];
 
-/// A read of an empty cell, and a store to the second object.
+/// A script that reads an empty cell and then stores into the second object.
 const WRITER: &[Part] = &[Part::Read(9, 1), Part::Stored(2, 0xcd)];
 
-/// The reader first makes the groups, and then reads while the second object is copied. The writer stores only once
-/// that object is remapped.
+/// A run in which the reader makes the groups, and then reads while the second object is copied. The writer stores only
+/// once that object's page is remapped.
 static READ_IN_A_COPY: Course = Course {
     first: READER,
     second: Some(WRITER),
@@ -388,10 +390,10 @@ fn a_reader_runs_during_a_copy(rt: HostRuntime) {
     check_that(&rt, seen.steps_left == 0, "no step is left");
 }
 
-/// Two reads of an empty cell, an object and a read of it.
+/// A script of two reads of an empty cell, a `New`, and a read of the new object.
 const FOUR_CALLS: &[Part] = &[Part::Read(9, 2), Part::Made(0, 1, 16), Part::Read(0, 1)];
 
-/// Two searchers run between the first call and the third.
+/// A run in which two searchers search between the first call and the third.
 static SEARCH_BESIDE: Course = Course {
     first: FOUR_CALLS,
     events: &[Event::Searching, Event::Called(0, 2)],
@@ -409,10 +411,10 @@ fn a_search_runs_beside_a_script(rt: HostRuntime) {
     check_entries(&rt, &seen, (4, 0));
 }
 
-/// Three reads of an empty cell.
+/// A script of three reads of an empty cell.
 const THREE_READS: &[Part] = &[Part::Read(9, 3)];
 
-/// The first call waits for a searcher at a class, and that searcher waits for the second call.
+/// A run in which the first call waits for a searcher at a class, and that searcher waits for the second call.
 static SEARCH_BETWEEN_READS: Course = Course {
     first: THREE_READS,
     events: &[Event::Searching, Event::Called(0, 1)],
@@ -430,7 +432,7 @@ fn a_search_runs_between_reads(rt: HostRuntime) {
     check_entries(&rt, &seen, (3, 0));
 }
 
-/// Three objects of half a page on an arena of one page.
+/// A run that makes three objects of half a page in an arena of one page.
 static ONE_PAGE: Course = Course {
     first: &[Part::Made(0, 3, 2048)],
     scale: Scale {
@@ -450,10 +452,10 @@ fn a_book_of_one_page_has_no_second(rt: HostRuntime) {
     check_that(&rt, seen.report.taken == 1, "one page is taken");
 }
 
-/// A read of an empty cell.
+/// A script of one read of an empty cell.
 const ONE_READ: &[Part] = &[Part::Read(9, 1)];
 
-/// Each of two reads waits for the other one.
+/// A run in which each of two reads waits for the other read.
 static TWO_READS: Course = Course {
     first: ONE_READ,
     second: Some(ONE_READ),
@@ -478,11 +480,11 @@ fn two_scripts_read_at_once(rt: HostRuntime) {
     check_entries(&rt, &seen, (1, 1));
 }
 
-/// The cells of all but two of sixteen objects of class 512, from cell 4 on. The other two are the objects of two
-/// groups that can be meshed.
+/// The cells of fourteen of sixteen objects of the class 512, from cell 4 on. If these objects are freed, two groups
+/// with one object each are left, and the two groups can be meshed.
 const OF_SMALL_GROUPS: &[u8] = &[4, 5, 6, 7, 8, 9, 10, 13, 14, 15, 16, 17, 18, 19];
 
-/// Each of two copies waits for the other one.
+/// A run in which each of two meshers stops after a copy until the other mesher has made a copy too.
 static TWO_COPIES: Course = Course {
     first: &[
         Part::Made(0, 4, 2048),
@@ -526,10 +528,10 @@ fn two_meshers_copy_at_once(rt: HostRuntime) {
     check_that(&rt, mapped == 4 && taken == 2, "each class is on one page");
 }
 
-/// Six groups with one object each, three of them in each of the two slots.
+/// A script that makes six groups with one object each. In three groups the object is in slot 0, in three in slot 1.
 const SIX_GROUPS: &[Part] = &[Part::Made(0, 12, 2048), Part::Freed(&[1, 3, 5, 6, 8, 10])];
 
-/// The search waits for the last command.
+/// A run in which the search waits for the last command.
 static SEARCH_BEHIND: Course = Course {
     first: SIX_GROUPS,
     events: &[Event::Called(0, 17)],
@@ -550,7 +552,8 @@ fn every_pair_is_meshed(rt: HostRuntime) {
     check_that(&rt, seen.report == report, "three pages are saved");
 }
 
-/// The same two groups, a byte stored in each of the two objects, and four reads of the second one.
+/// A script that makes two groups with one object each, stores a byte into both objects, and reads the second object
+/// four times.
 const STORER: &[Part] = &[
     Part::Made(0, 4, 2048),
     Part::Freed(&[0, 3]),
@@ -559,7 +562,7 @@ const STORER: &[Part] = &[
     Part::Read(2, 4),
 ];
 
-/// The search waits for the stores, and the reads wait for the mesh.
+/// A run in which the search waits for the stores, and the reads wait for the mesh.
 static MESH_AMID: Course = Course {
     first: STORER,
     events: &[Event::Called(0, 7), Event::Begun(0)],
@@ -570,7 +573,7 @@ static MESH_AMID: Course = Course {
     ..ALONE
 };
 
-/// The same with a mesher that makes no call, and so begins no mesh that the reads could wait for.
+/// The run `MESH_AMID` with a mesher that makes no call. No mesh begins, so the reads wait for none.
 static NO_MESH: Course = Course {
     first: STORER,
     events: &[Event::Called(0, 7)],
@@ -578,8 +581,8 @@ static NO_MESH: Course = Course {
     ..ALONE
 };
 
-/// Asserts that all commands were answered, that both objects keep their bytes to the end, and that this number of
-/// steps was left.
+/// Asserts that all commands were answered, that both objects keep their bytes to the end, and that `left` steps of
+/// meshes were left.
 fn check_abandoned(rt: &impl Abort, seen: &Seen, left: u32) {
     check_entries(rt, seen, (12, 0));
     check_that(
@@ -600,7 +603,7 @@ fn a_mesher_is_abandoned_after_each_call(rt: HostRuntime) {
     }
 }
 
-/// A writer stores only once the page is read-only.
+/// A run in which a writer stores only once the page of its object is read-only.
 static STORE_HELD_BACK: Course = Course {
     first: READER,
     second: Some(WRITER),
