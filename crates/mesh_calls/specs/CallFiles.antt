@@ -13,24 +13,24 @@ use Rattle.model_words.specs.declared.faults.FaultKind.TheVariants.{Word}
 use Rattle.mesh_fields.specs.Lines.{bytes_fit, line_fields}
 use Rattle.mesh_history.specs.HistoryFiles.{answer_in, arrow_split, command_in}
 
--- the word of a command that names one object by its cell
+-- whether the word is that of a command that names one object by its cell
 abbrev pub is_object_word : List ℕ → Bool
 is_object_word word =
     are_same word (codes "new") || are_same word (codes "put") || are_same word (codes "get") || are_same word (codes "free")
     || are_same word (codes "addr")
 
--- such a command
+-- the command of this word and these fields, if it names one object by its cell, or else a fault
 abbrev pub object_command_in : List ℕ → List (List ℕ) → Result Command FaultKind
 object_command_in word fields = refuse_if Word (not (is_object_word word)) >>= λ _. command_in word fields
 
--- what a worker asked, and from when to when it took
+-- a worker's command, and the moments at which its call began and ended
 pub record Asked : Type 0 where
   pub worker : ℕ
   pub begin : ℕ
   pub end : ℕ
   pub command : Command
 
--- `W BEGIN END COMMAND`
+-- `W BEGIN END COMMAND`: the end is at least the begin
 abbrev pub call_asked_in : List (List ℕ) → Result Asked FaultKind
 call_asked_in [] = Err Word
 call_asked_in (worker ∷ []) = Err Word
@@ -40,7 +40,7 @@ call_asked_in (worker ∷ begin ∷ end ∷ word ∷ fields) =
     number_in 0 65535 worker >>= λ asking. number_in 0 18446744073709551615 begin >>= λ from. number_in from 18446744073709551615 end >>= λ to.
     object_command_in word fields >>= λ command. Ok (record { worker = asking; begin = from; end = to; command = command })
 
--- the answer is one that the command may have, and its effect is known by it: only a `new` may be refused
+-- whether the command may have this answer and the answer shows its effect: only a `new` may be refused
 abbrev pub has_effect : Command → Reply → Bool
 has_effect (New cell len word) (Made serial address) = true
 has_effect (New cell len word) (Refused refusal) = true
@@ -50,35 +50,35 @@ has_effect (Free cell) Done = true
 has_effect (Addr cell) (At address) = true
 has_effect command reply = false
 
--- what was answered to a command
+-- the answer to a command in these fields, if it shows the command's effect, or else a fault
 abbrev pub effect_in : Command → List (List ℕ) → Result Reply FaultKind
 effect_in command fields = answer_in fields >>= λ reply. refuse_if Word (not (has_effect command reply)) >>= λ _. Ok reply
 
--- a call with this answer
+-- the call of a command with this answer
 abbrev pub answered : Asked → Reply → Call
 answered asked reply =
     record { begin = asked.begin; end = asked.end; entry = record { worker = asked.worker; command = asked.command; reply = reply } }
 
--- a call by the fields before its arrow and those behind it, from left to right
+-- the call of the fields before and after its arrow, or its first fault from left to right
 abbrev pub call_of : List (List ℕ) → List (List ℕ) → Result Call FaultKind
 call_of before behind = call_asked_in before >>= λ asked. effect_in asked.command behind >>= λ reply. Ok (answered asked reply)
 
--- a call by its fields
+-- the call of these fields, at most 37 and none of them empty, or its fault
 abbrev pub call_fields : List (List ℕ) → Result Call FaultKind
 call_fields fields =
     refuse_if Word (list_any is_empty fields) >>= λ _. refuse_if Word (nat_lt 37 (length fields)) >>= λ _.
     or_refuse Word (arrow_split fields) >>= λ parts. call_of parts.0 parts.1
 
--- what the line of a call, without its end, is read as, or its fault
+-- the call of a line, without the line's end, or its fault
 abbrev pub call_in : List ℕ → Result Call FaultKind
 call_in line = bytes_fit line >>= λ _. call_fields (line_fields line)
 
--- the first line by its fields: `history 2`
+-- success if these are the fields of the first line, `history 2`, or else the fault
 abbrev pub call_head_fields : List (List ℕ) → Result (Unit {0}) FaultKind
 call_head_fields [] = Err Word
 call_head_fields (word ∷ fields) =
     refuse_if Word (list_any is_empty (word ∷ fields)) >>= λ _. header_in (codes "history") 2 2 word fields >>= λ _. Ok tt
 
--- that a line, without its end, is the first one of a history of overlapping calls, or its fault
+-- success if the line, without its end, is the first line of a history of overlapping calls, or else its fault
 abbrev pub call_head_in : List ℕ → Result (Unit {0}) FaultKind
 call_head_in line = bytes_fit line >>= λ _. call_head_fields (line_fields line)

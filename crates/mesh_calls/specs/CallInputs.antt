@@ -14,11 +14,11 @@ use Rattle.mesh_calls.specs.declared.faults.CallError.TheVariants.{Text, Order, 
 use Rattle.mesh_calls.specs.declared.inputs.CallInput.{CallInput}
 use Rattle.mesh_calls.specs.declared.words.TimedCall.{TimedCall}
 
--- how many lines of a history were read
+-- the number of lines of a history that were read
 abbrev pub lines_before : CallInput → ℕ
 lines_before history = lines_of history.lines
 
--- the line of the next call: the first line is the head
+-- the number of the next call's line: line 1 is the head
 abbrev pub next_line : CallInput → ℕ
 next_line history = if nat_eq (lines_before history) 0 then 2 else lines_before history + 1
 
@@ -27,11 +27,11 @@ pub record IsFresh (history : CallInput) : Type 0 where
   pub lines : IsFreshInput history.lines
   pub order : IsOrderOf history.order []
 
--- behind lines of which these calls are read, whatever follows is read behind them
+-- these lines are read as these calls without a fault, whatever lines follow
 pub record AreRead (lines : List (List ℕ)) (calls : List Call) : Type 0 where
   pub reads : (next : List ℕ) (later : List (List ℕ)) → calls_from 0 [] (lines ++ next ∷ later) ≡ calls_from (length lines) calls (next ∷ later)
 
--- of what its device gave, these calls have come: they are read of the lines that have come, whatever follows
+-- these calls were read of what the device gave: its lines so far are read as these calls, whatever follows
 pub record HasCome (history : CallInput) (left left' : Option (List ℕ)) (calls : List Call) : Type 0 where
   pub lines : List (List ℕ)
   pub come : LinesCome history.lines left left' lines
@@ -39,19 +39,19 @@ pub record HasCome (history : CallInput) (left left' : Option (List ℕ)) (calls
   pub line : next_line history ≡ length calls + 2
   pub order : IsOrderOf history.order calls
 
--- the next call has come
+-- `call` was read after these calls, and is in order
 pub record HasNext (history : CallInput) (left left' : Option (List ℕ)) (calls : List Call) (call : TimedCall) : Type 0 where
   pub come : HasCome history left left' (calls ++ plain_call call ∷ [])
   pub in_order : is_in_order calls (plain_call call) ≡ true
   pub line : lines_before history ≡ length calls + 2
 
--- the device gave a text with these calls and this fault: so it is whatever follows, or the input ended there
+-- the device gave a text with this reading: either whatever follows, or because the input ended there
 pub record HasRead (left left' : Option (List ℕ)) (reading : CallReading) : Type 0 where
   pub text : List ℕ
   pub taken : Consumes left left' text
   pub is_read : ((more : List ℕ) → calls_of (text ++ more) ≡ reading) ⊎ ((calls_of text ≡ reading) × IsAtEnd left')
 
--- the input ended behind these calls, and its text has no fault
+-- the input ended after these calls, and its text has no fault
 pub record HasEnded (history : CallInput) (left left' : Option (List ℕ)) (calls : List Call) : Type 0 where
   pub text : List ℕ
   pub taken : Consumes left left' text
@@ -59,7 +59,7 @@ pub record HasEnded (history : CallInput) (left left' : Option (List ℕ)) (call
   pub is : calls_of text ≡ record { calls = calls; fault = None }
   pub lines : lines_before history ≡ length calls + 1
 
--- why no call comes behind these: the text has this fault. Nothing is said where the input or an allocation failed
+-- why no call follows these: the text has this fault. If the input or an allocation failed, nothing is claimed
 abbrev pub HasStopped : Option (List ℕ) → Option (List ℕ) → List Call → CallError → Type 0
 HasStopped left left' calls (Text fault) = HasRead left left' (record { calls = calls; fault = Some (OfText fault) })
 HasStopped left left' calls (Order line) = HasRead left left' (record { calls = calls; fault = Some (OutOfOrder line) })
@@ -68,25 +68,26 @@ HasStopped left left' calls Memory = Unit {0}
 
 -- ---- the steps of a read
 
--- the fault is the one that a line was read to, or memory
+-- the error is the fault that the reading of a line returned, or an allocation failed
 abbrev pub IsFaultOf : Result CallLine CallFault → CallError → Type 0
 IsFaultOf read (Text fault) = read ≡ Err (OfText fault)
 IsFaultOf read (Order line) = read ≡ Err (OutOfOrder line)
 IsFaultOf read Memory = Unit {0}
 IsFaultOf read Read = ⊥
 
--- a line of this number was read to this fault
+-- the reading of the line with this number returned this fault
 pub record IsFaultAt {A : Type 0} (number : ℕ) (read : Result A FaultKind) (fault : TextFault) : Type 0 where
   pub kind : FaultKind
   pub is : read ≡ Err kind
   pub same : fault ≡ fault_at number kind
 
--- the error is the fault to which a line of this number was read
+-- the error is the fault that the reading of the line with this number returned
 abbrev pub IsFaultIn : {A : Type 0} → ℕ → Result A FaultKind → CallError → Type 0
 IsFaultIn number read (Text fault) = IsFaultAt number read fault
 IsFaultIn number read error = ⊥
 
--- what is made of a line, behind so many lines and these calls
+-- what a line after `lines` lines and these calls is read as: the head, a call in order, which the new order includes,
+-- or a fault. `Memory` claims nothing
 abbrev pub IsTaken : CallInput → ℕ → List Call → List ℕ → Result (Option TimedCall) CallError → Type 0
 IsTaken new lines calls line (Ok None) = (next_in lines calls line ≡ Ok Head) × IsOrderOf new.order calls
 IsTaken new lines calls line (Ok (Some call)) =

@@ -1,4 +1,4 @@
--- What is read of the text of a history of overlapping calls: its calls up to the first fault, and that fault.
+-- The reading of a text of overlapping calls: the calls before the first fault, and that fault.
 use Rattle.std.specs.Prelude.{ℕ, ◌+◌, ◌&&◌, if◌then◌else◌, nat_eq, nat_le, nat_lt, Bool, true, List, [], ◌∷◌, ◌++◌, Option, Some, None, Result, Ok, Err, option_map}
 use Rattle.std.specs.List.{list_all}
 use Rattle.model_intervals.specs.Intervals.{Call}
@@ -11,11 +11,12 @@ use Rattle.mesh_calls.specs.CallFiles.{call_head_in, call_in}
 
 -- ---- the order of the lines
 
--- a call of this worker that begins at this moment may follow: an earlier call of the same worker has ended before
+-- whether a call of this worker may begin at this moment: if the earlier call has the same worker, it ended before
 abbrev pub has_ended_before : Call → ℕ → ℕ → Bool
 has_ended_before earlier worker begin = if nat_eq earlier.entry.worker worker then nat_lt earlier.end begin else true
 
--- a call may follow earlier ones: each of them began no later, and those of the same worker ended before it begins
+-- whether a call may follow earlier ones: each of them began no later, and each one of the same worker ended before the
+-- call begins
 abbrev pub is_in_order : List Call → Call → Bool
 is_in_order calls call =
     list_all (λ earlier. nat_le earlier.begin call.begin) calls
@@ -23,7 +24,7 @@ is_in_order calls call =
 
 -- ---- the reading of a text
 
--- why a text is read no further: the fault of its text, or a line whose call is out of order
+-- why the reading of a text stops: a fault of the text, or the line of a call that is out of order
 pub data CallFault : Type 0 where
   OfText : TextFault → CallFault
   OutOfOrder : ℕ → CallFault
@@ -38,35 +39,35 @@ pub record CallReading : Type 0 where
   pub calls : List Call
   pub fault : Option CallFault
 
--- the first line is the head
+-- what the first line is read as: the head, or its fault
 abbrev pub head_line : Result (Unit {0}) FaultKind → Result CallLine CallFault
 head_line (Ok head) = Ok Head
 head_line (Err kind) = Err (OfText (fault_at 1 kind))
 
--- a call by its line, behind so many lines and these calls
+-- what a later line, after `lines` lines and these calls, is read as: a call that is in order, or its fault
 abbrev pub call_line : ℕ → List Call → Result Call FaultKind → Result CallLine CallFault
 call_line lines calls (Ok call) = if is_in_order calls call then Ok (OfCall call) else Err (OutOfOrder (lines + 1))
 call_line lines calls (Err kind) = Err (OfText (fault_at (lines + 1) kind))
 
--- what the next line is read as, behind so many lines and these calls, or its fault
+-- what the next line, after `lines` lines and these calls, is read as, or its fault
 abbrev pub next_in : ℕ → List Call → List ℕ → Result CallLine CallFault
 next_in lines calls line =
     if is_full lines then Err (OfText too_long)
     else (if nat_eq lines 0 then head_line (call_head_in line) else call_line lines calls (call_in line))
 
--- what was read of a line behind these calls, and what is read behind it: a fault ends the reading
+-- the reading from a line on, by what this line is read as and the reading of the later lines: a fault ends the reading
 abbrev pub read_on : Result CallLine CallFault → List Call → (List Call → CallReading) → CallReading
 read_on (Ok Head) calls later = later calls
 read_on (Ok (OfCall call)) calls later = later (calls ++ call ∷ [])
 read_on (Err fault) calls later = record { calls = calls; fault = Some fault }
 
--- what is read of the lines that are left behind so many lines and these calls; the last of them is what follows the
--- last line end
+-- the reading of these lines, which follow `lines` lines and these calls; the last of them is the bytes after the last
+-- line end
 abbrev pub calls_from : ℕ → List Call → List (List ℕ) → CallReading
 calls_from lines calls [] = record { calls = calls; fault = None }
 calls_from lines calls (rest ∷ []) = record { calls = calls; fault = option_map OfText (end_fault lines rest) }
 calls_from lines calls (line ∷ next ∷ more) = read_on (next_in lines calls line) calls (λ behind. calls_from (lines + 1) behind (next ∷ more))
 
--- what is read of a text
+-- the reading of a text
 abbrev pub calls_of : List ℕ → CallReading
 calls_of text = calls_from 0 [] (text_lines text)

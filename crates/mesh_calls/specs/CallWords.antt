@@ -1,4 +1,4 @@
--- The words of a history of overlapping calls, as those of the model.
+-- The calls of a history of overlapping calls, as calls of the model.
 use Rattle.std.specs.Prelude.{◌≡◌, ◌<◌, ◌≤◌, ◌^◌, Result, Ok, Err}
 use Rattle.model_history.specs.Recorded.{many_cells}
 use Rattle.model_intervals.specs.Intervals.{Call}
@@ -11,12 +11,12 @@ use Rattle.mesh_calls.specs.CallFiles.{Asked}
 use Rattle.mesh_calls.specs.declared.asked.AskedCall.{AskedCall}
 use Rattle.mesh_calls.specs.declared.words.TimedCall.{TimedCall}
 
--- a call that was read, as one of the model
+-- a call that was read, as a call of the model
 abbrev pub plain_call : TimedCall → Call
 plain_call call = record { begin = call.begin; end = call.end; entry = plain_entry call.entry }
 
--- a call that was read ends no earlier than it begins, its command and its answer are in their ranges, and the answer
--- shows the command's effect
+-- the call ends no earlier than it begins and before 2^64. Its command, answer and cell are in their ranges, and the
+-- answer shows the command's effect
 pub record IsReadCall (call : TimedCall) : Type 0 where
   pub takes_time : call.begin ≤ call.end
   pub ends : call.end < 2 ^ 64
@@ -26,23 +26,23 @@ pub record IsReadCall (call : TimedCall) : Type 0 where
   pub effect : HasEffect (plain_command call.entry.command) (plain_reply call.entry.reply)
   pub cell : cell_at (plain_call call) < many_cells
 
--- what a worker asked, as in the model
+-- the command that was read with its worker and moments, as in the model
 abbrev pub plain_asked : AskedCall → Asked
 plain_asked asked = record { worker = asked.worker; begin = asked.begin; end = asked.end; command = plain_command asked.command }
 
--- what was asked ends no earlier than it begins, and is in its ranges
+-- the command's call ends no earlier than it begins and before 2^64, and the command is in its ranges
 pub record IsReadAsked (asked : AskedCall) : Type 0 where
   pub takes_time : asked.begin ≤ asked.end
   pub ends : asked.end < 2 ^ 64
   pub in_range : IsInRange (plain_command asked.command)
   pub within : IsWithin 4294967295 140737488355328 281474976710655 asked.command
 
--- what was read of what a worker asked
+-- the code reads a worker's command as the definition does: as the same command, in its ranges, or as the same fault
 abbrev pub IsAskedRead : Result Asked FaultKind → Result AskedCall FaultKind → Type 0
 IsAskedRead read (Ok asked) = (read ≡ Ok (plain_asked asked)) × IsReadAsked asked
 IsAskedRead read (Err kind) = read ≡ Err kind
 
--- what was read of a call is that call, or its fault
+-- the code reads a call as the definition does: as the same call, in its ranges, or as the same fault
 abbrev pub IsCallRead : Result Call FaultKind → Result TimedCall FaultKind → Type 0
 IsCallRead read (Ok call) = (read ≡ Ok (plain_call call)) × IsReadCall call
 IsCallRead read (Err kind) = read ≡ Err kind

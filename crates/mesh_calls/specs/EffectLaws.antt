@@ -1,4 +1,4 @@
--- What the test of an answer means.
+-- What the test of an answer decides.
 use Rattle.std.specs.Prelude.{◌≡◌, ◌↔◌, true}
 use Rattle.model_intervals.specs.OverlappingCalls.{HasEffect}
 use Rattle.model_words.specs.declared.commands.Command.{Command}

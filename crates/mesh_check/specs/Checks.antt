@@ -5,13 +5,13 @@ use Rattle.mesh_check.specs.Outcomes.{Faulty, IsVerdict, Outcome}
 use Rattle.mesh_devices.specs.declared.faults.ReplayError.{ReplayError}
 use Rattle.mesh_devices.specs.declared.faults.ReplayError.TheVariants.{Read, Write, Text, Memory}
 
--- this is found of the text that was read, whatever follows it; or of the text to the input's end
+-- this outcome is found of the text that was read: either whatever follows, or because the input ended there
 pub record HasJudged (left left' : Option (List ℕ)) (o : Outcome) : Type 0 where
   pub text : List ℕ
   pub taken : Consumes left left' text
   pub found : ((more : List ℕ) → IsVerdict (text ++ more) o) ⊎ (IsVerdict text o × IsAtEnd left')
 
--- why there is no verdict: a fault of the text is the one that it has
+-- why there is no verdict: the text has this fault. `Read` and `Memory` claim nothing, and no `Write` occurs
 abbrev pub HasNotJudged : Option (List ℕ) → Option (List ℕ) → ReplayError → Type 0
 HasNotJudged left left' (Text fault) = HasJudged left left' (Faulty fault)
 HasNotJudged left left' Read = Unit {0}

@@ -14,7 +14,7 @@ use Rattle.mesh_check.specs.declared.faults.CommandError.{CommandError}
 use Rattle.mesh_check.specs.declared.faults.CommandError.TheVariants.{Refused as IsRefused, Memory as OfMemory}
 use Rattle.mesh_check.specs.declared.memory.Tracked.{Tracked}
 
--- the command makes an object
+-- whether the command is a `new`
 abbrev pub is_new : Command → Bool
 is_new (New cell len word) = true
 is_new command = false
@@ -27,11 +27,11 @@ IsAnswered old new command reply = (r : Recorded) → Stands old r → (m : Memo
 abbrev pub IsTaken : Tracked → Tracked → Command → Reply → Type 0
 IsTaken old new command reply = (r : Recorded) → Stands old r → (n : Recorded) × RecordedStep any_allocator r command reply n × Stands new n
 
--- it is none
+-- the entry is no step of a recorded history
 abbrev pub IsWrong : Tracked → Command → Reply → Type 0
 IsWrong old command reply = (r : Recorded) → Stands old r → (n : Recorded) → RecordedStep any_allocator r command reply n → ⊥
 
--- the reply to a command that is done or refused; out of memory, an error
+-- if the command is done or refused, this is its reply; if it is out of memory, there is an error instead
 abbrev pub IsTold : Result (Unit {0}) CommandError → Result RecordedReply AllocError → Type 0
 IsTold (Ok _) (Ok reply) = reply ≡ Done
 IsTold (Err (IsRefused refusal)) (Ok reply) = reply ≡ Refused refusal

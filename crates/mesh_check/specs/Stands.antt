@@ -1,4 +1,4 @@
--- The memory of a recorded history, kept in trees.
+-- The memory of a recorded history, stored in trees.
 use Rattle.std.specs.Prelude.{◌≡◌, ◌≢◌, ◌↔◌, ℕ, ◌<◌, ◌≤◌, ◌+◌, ◌^◌, true, List, Option, Some, None, Ok, Err, IsOk, length, slice_get}
 use Rattle.std.specs.Ordering.{nat_cmp}
 use Rattle.std.specs.BTreeMap.{get}
@@ -19,9 +19,9 @@ use Rattle.mesh_check.specs.declared.memory.Tracked.{Tracked}
 use Rattle.mesh_check.specs.declared.reasons.AddressRange.{AddressRange}
 use Rattle.mesh_check.specs.declared.reasons.Overlap.{Overlap}
 
--- the objects by number, the serials that they were given, their numbers by address, what cells hold, the serials that
--- were given, and how many objects were made, are those of what was recorded; no two live objects have an address in
--- common
+-- these represent what was recorded: the objects by number, their serials, their numbers by address, what cells hold,
+-- all serials that were given, and the number of objects made. Each live object has at least 1 byte and ends below
+-- 2^64, and no two have an address in common
 pub record StandsFor (objects : ℕ → Option Object) (serials_at starts : ℕ → Option ℕ) (table : CellTable) (set : List (ℕ × ℕ)) (made : ℕ) (r : Recorded) : Type 0 where
   pub count : next_serial r.memory ≡ made
   pub object : (n : ℕ) → object_of r.memory n ≡ objects n
@@ -42,11 +42,11 @@ pub record StandsFor (objects : ℕ → Option Object) (serials_at starts : ℕ 
 abbrev pub objects_of : Tracked → ℕ → Option Object
 objects_of m n = object_in (get nat_cmp m.objects n)
 
--- the serials that they were given
+-- the serials of the live objects by number
 abbrev pub serials_of : Tracked → ℕ → Option ℕ
 serials_of m n = serial_in (get nat_cmp m.objects n)
 
--- the trees are those of what was recorded
+-- the trees represent what was recorded
 abbrev pub Stands : Tracked → Recorded → Type 0
 Stands m r = StandsFor (objects_of m) (serials_of m) (get nat_cmp m.starts) m.cells m.serials m.made r
 
@@ -55,43 +55,45 @@ abbrev pub IsGone : Tracked → Held → Type 0
 IsGone m (Number n) = get nat_cmp m.objects n ≡ None
 IsGone m Freed = Unit {0}
 
--- `g` gives this at `k`, and at each other number what `f` gives
+-- `g` returns `v` at `k`, and the value of `f` at each other number
 abbrev pub IsSetAt : {X : Type 0} → (ℕ → Option X) → (ℕ → Option X) → ℕ → Option X → Type 0
 IsSetAt f g k v = (g k ≡ v) × ((q : ℕ) → q ≢ k → g q ≡ f q)
 
--- the number at the greatest address that is at most this one
+-- the number of the object at the greatest of the addresses up to this one at which an object starts, or `None` if none
+-- starts there
 abbrev pub IsNearest : (ℕ → Option ℕ) → ℕ → Option ℕ → Type 0
 IsNearest starts address None = (q : ℕ) → q ≤ address → starts q ≡ None
 IsNearest starts address (Some n) =
     (b : ℕ) × (b ≤ address) × (starts b ≡ Some n) × ((q k : ℕ) → q ≤ address → starts q ≡ Some k → q ≤ b)
 
--- what was recorded, with this memory
+-- what was recorded, with another memory
 abbrev pub with_memory : Recorded → Memory → Recorded
 with_memory r m = record { memory = m; serials = r.serials }
 
--- the command is done, and the trees represent the memory after it
+-- the reference memory does the command, and the trees represent the memory after it
 abbrev pub IsDone : Tracked → Tracked → Command → Type 0
 IsDone old new command =
     (r : Recorded) → Stands old r → (m : Memory) × (plain r.memory 0 command ≡ Ok (Done, m)) × Stands new (with_memory r m)
 
--- the command is refused so, and nothing has changed
+-- the reference memory refuses the command with this refusal, and nothing changes
 abbrev pub IsRefusedAs : Tracked → Tracked → Command → Refusal → Type 0
 IsRefusedAs old new command refusal = (new ≡ old) × ((r : Recorded) → Stands old r → plain r.memory 0 command ≡ Err refusal)
 
--- the command is refused, and nothing has changed; where memory was refused nothing is said of what is left
+-- the reference memory refuses the command, and nothing changes; if an allocation failed, nothing is claimed
 abbrev pub IsRefused : Tracked → Tracked → Command → CommandError → Type 0
 IsRefused old new command (Refused refusal) = IsRefusedAs old new command refusal
 IsRefused old new command OfMemory = Unit {0}
 
--- the plain memory does the command
+-- the reference memory doesn't refuse the command
 abbrev pub IsPossible : Tracked → Command → Type 0
 IsPossible old command = (r : Recorded) → Stands old r → IsOk (plain r.memory 0 command)
 
--- so many addresses from one on
+-- the range of `len` addresses from `address` on
 abbrev pub addresses_from : ℕ → ℕ → AddressRange
 addresses_from address len = record { from = address; to = address + len }
 
--- a live object has an address of the range: the overlap has its serial and its addresses, and those of the range
+-- a live object has an address in the range: `overlap` has the serial and the addresses of this object, and the
+-- addresses of the range
 pub record IsOverlapped (r : Recorded) (address len : ℕ) (overlap : Overlap) : Type 0 where
   pub number : ℕ
   pub object : Object
@@ -104,7 +106,8 @@ pub record IsOverlapped (r : Recorded) (address len : ℕ) (overlap : Overlap) :
   pub to : place < address + len
   pub has : has_address object place ≡ true
 
--- the command is done by storing these bytes from an offset of the live object of this number on, where they have room
+-- the live object with this number has room for these bytes from the offset on, and the command does nothing but store
+-- them there
 abbrev pub IsCopied : Tracked → Command → ℕ → ℕ → List ℕ → Type 0
 IsCopied m command n off bytes =
     (o : LiveObject) × (get nat_cmp m.objects n ≡ Some o) × (off + length bytes ≤ length o.object.bytes)

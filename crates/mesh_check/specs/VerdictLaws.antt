@@ -12,8 +12,8 @@ AreEntries [] [] = Unit {0}
 AreEntries (line ∷ lines) (entry ∷ entries) = (entry_in line ≡ Ok entry) × AreEntries lines entries
 AreEntries lines entries = ⊥
 
--- the text is the head of a history and the lines of these entries, each with its end, and they are fewer than
--- 4,294,967,295
+-- the text is the head of a history and then the lines of these entries, each with its end; there are fewer than
+-- 4,294,967,295 entries
 pub record IsHistory (text : List ℕ) (entries : List Entry) : Type 0 where
   pub head : List ℕ
   pub lines : List (List ℕ)
@@ -22,12 +22,13 @@ pub record IsHistory (text : List ℕ) (entries : List Entry) : Type 0 where
   pub are_entries : AreEntries lines entries
   pub few : length entries < 4294967295
 
--- `legal` is reported of legal histories, and of no others
+-- `Legal` is the outcome of a text if and only if it is a legal history, with this number of entries
 abbrev pub LegalIsLegal : Type 0
 LegalIsLegal = (text : List ℕ) (n : ℕ)
     → IsVerdict text (Legal n) ↔ ((entries : List Entry) × IsHistory text entries × (length entries ≡ n) × ((end : Recorded) × IsRecorded any_allocator entries end))
 
--- the line of a wrong entry: the entries before it are a legal history, and it is no step of theirs
+-- the first rejected entry is on this line: the entries before it are a legal history, and it is no step that continues
+-- this history
 pub record IsFirstWrong (text : List ℕ) (line : ℕ) : Type 0 where
   pub head : List ℕ
   pub lines : List (List ℕ)
@@ -44,10 +45,10 @@ pub record IsFirstWrong (text : List ℕ) (line : ℕ) : Type 0 where
   pub no_step : (n : Recorded) → RecordedStep any_allocator left entry.command entry.reply n → ⊥
   pub number : line ≡ length lines + 2
 
--- if a line is reported, it is that of the first entry that is rejected
+-- if the outcome rejects a line, it is the line of the first rejected entry
 abbrev pub WrongIsFirst : Type 0
 WrongIsFirst = (text : List ℕ) (line : ℕ) → IsVerdict text (Wrong line) → IsFirstWrong text line
 
--- one thing is found of a text
+-- a text has at most one outcome
 abbrev pub VerdictsAreOne : Type 0
 VerdictsAreOne = (text : List ℕ) (o o' : Outcome) → IsVerdict text o → IsVerdict text o' → o ≡ o'

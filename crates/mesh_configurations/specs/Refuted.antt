@@ -5,8 +5,8 @@ use Rattle.mesh_configurations.specs.Carried.{carry}
 use Rattle.mesh_configurations.specs.Growing.{AreMet}
 use Rattle.mesh_configurations.specs.Standings.{Standing, effect_at, had_effect}
 
--- the call is the one that was pending at the place, and the configurations are exactly the kept ones and those that
--- effects of pending calls, up to that of the call, make of them
+-- the refutation has the call that was pending at the place. Its configurations are exactly the kept ones, and those to
+-- which effects of pending calls, up to that of this call, lead from them
 abbrev pub IsRefuted : {O S C : Type 0} → (S → C → Option S) → Standing S C → ℕ → Refutation O S C → Type 0
 IsRefuted effect old place refutation = (slice_get old.pending place ≡ Some (Some refutation.call))
     × AreMet (carry (effect_at effect old.pending) had_effect place) (length old.pending) old.kept refutation.met

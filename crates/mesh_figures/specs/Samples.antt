@@ -40,7 +40,7 @@ last ns = slice_index ns (length ns - 1)
 unfoldable pub rounded : ℕ → ℕ → ℕ
 rounded a b = (2 * a + b) / (2 * b)
 
--- the sum of so many numbers divided by how many they are, rounded half up; 0 for none
+-- the mean of `count` numbers with the sum `whole`, rounded half up; 0 if `count` is 0
 abbrev pub mean_of : ℕ → ℕ → ℕ
 mean_of whole count = if nat_eq count 0 then 0 else rounded whole count
 
@@ -58,28 +58,28 @@ pages_by figure count samples =
       perfect = figure (map (λ (s : Sample). count s.perfect) samples);
     }
 
--- the pages of both heaps behind the call of this number
+-- the pages of both heaps after the call with this number
 abbrev pub saving : ℕ → Sample → Saving
 saving call sample = record { call = call; without = total sample.without; with = total sample.with }
 
--- those behind calls in a row, of which the first has this number
+-- the pages of both heaps after calls in a row, the first of which has this number
 abbrev pub savings_from : ℕ → List Sample → List Saving
 savings_from call [] = []
 savings_from call (s ∷ samples) = saving call s ∷ savings_from (call + 1) samples
 
--- without - with is no less behind the first call than behind the second
+-- `without - with` is no less for `a` than for `b`
 abbrev pub SavesNoLess : Saving → Saving → Type 0
 SavesNoLess a b = b.without + a.with ≤ a.without + b.with
 
--- whether it is no less
+-- whether `without - with` is no less for `a` than for `b`
 abbrev pub saves_no_less : Saving → Saving → Bool
 saves_no_less a b = nat_le (b.without + a.with) (a.without + b.with)
 
--- the first that saves no less than any of them; none where there are none
+-- the first saving that saves no less than any other, or `None` if there are no savings
 abbrev pub best_of : List Saving → Option Saving
 best_of savings = find (λ a. list_all (saves_no_less a) savings) savings
 
--- the first call measured behind which `without - with` is greatest; none where none is measured
+-- the first measured call after which `without - with` is greatest, or `None` if no call is measured
 abbrev pub most_saved : Window → List Sample → Option Saving
 most_saved window samples = best_of (savings_from (first_call window) (measured window samples))
 

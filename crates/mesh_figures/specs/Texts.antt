@@ -10,22 +10,23 @@ use Rattle.mesh_figures.specs.declared.samples.Counts.{Counts}
 use Rattle.mesh_figures.specs.declared.savings.Saving.{Saving}
 use Rattle.mesh_figures.specs.declared.pages.Pages.{Pages}
 
--- a text at the right and at the left of a field of this width, filled with spaces; a longer text is not cut
+-- the text at the right or at the left of a field of this width, filled with spaces; a longer text is not cut
 abbrev pub right : ℕ → List ℕ → List ℕ
 right width text = replicate (width - length text) 32 ++ text
 
 abbrev pub left : ℕ → List ℕ → List ℕ
 left width text = text ++ replicate (width - length text) 32
 
--- a number with one decimal, from its tenths
+-- the text of a number of tenths, with one decimal
 unfoldable pub tenths_text : ℕ → List ℕ
 tenths_text n = decimal (n / 10) ++ codes "." ++ decimal (n % 10)
 
--- the sign of without - with
+-- the sign of `without - with`: a minus sign, or nothing
 abbrev pub sign_text : ℕ → ℕ → List ℕ
 sign_text without with = if nat_lt without with then codes "-" else []
 
--- the share of pages that is saved in percent: its size is rounded half up, its sign that of without - with
+-- the share of pages that is saved, in percent: rounded half up without its sign, which is that of `without - with`; a
+-- dash if `without` is 0
 unfoldable pub saved_text : ℕ → ℕ → List ℕ
 saved_text without with =
     if nat_eq without 0 then codes "-"
@@ -35,7 +36,7 @@ saved_text without with =
 unfoldable pub difference_text : ℕ → ℕ → List ℕ
 difference_text without with = sign_text without with ++ decimal (abs_diff without with)
 
--- a number after what it is
+-- a number after its name
 unfoldable pub counted : List ℕ → ℕ → List ℕ
 counted name n = name ++ decimal n
 
@@ -47,7 +48,7 @@ calls_line calls counts =
 unfoldable pub heading_line : List ℕ
 heading_line = codes "pages              without     with  saved  perfect  live bytes\n"
 
--- a number in a column of this width, which a space parts from the column before
+-- a number at the right of a column of this width, after a space that separates it from the column before
 abbrev pub column : ℕ → ℕ → List ℕ
 column width n = codes " " ++ right width (decimal n)
 
@@ -78,18 +79,18 @@ unfoldable pub class_pages : Pages → List ℕ
 class_pages pages =
     right 5 (decimal pages.without) ++ codes " -> " ++ right 5 (decimal pages.with) ++ codes "  perfect " ++ right 5 (decimal pages.perfect)
 
--- the line of the class of this size: its pages in the mean and in the end
+-- the line of the class of this size: its mean pages and its pages at the end
 unfoldable pub class_line : ℕ → Pages → Pages → List ℕ
 class_line size means ends =
     codes "class " ++ left 4 (decimal size) ++ codes "  mean " ++ class_pages means ++ codes "  end " ++ class_pages ends ++ codes "\n"
 
--- the line of the class at a place of the class table, where it ever held an object
+-- the line of the class at a place of the class table if the class ever held an object, or else nothing
 abbrev pub used_line : List Bool → List Sample → ℕ → List ℕ
 used_line used samples k =
     if slice_index_or used k false then class_line (size_at k) (pages_by mean (of_class k) samples) (pages_by last (of_class k) samples)
     else []
 
--- the lines of the classes
+-- the lines of the classes that ever held an object
 unfoldable pub class_lines : List Bool → List Sample → List ℕ
 class_lines used samples = flat_map (used_line used samples) (range_with_len 0 10)
 

@@ -15,11 +15,11 @@ use Rattle.model_words.specs.declared.refusals.Refusal.TheVariants.{Zero, TooLar
 use Rattle.mesh_fields.specs.Commands.{history_rules, place_in, wide_in}
 use Rattle.mesh_fields.specs.Lines.{bytes_fit, line_fields}
 
--- a command by its word
+-- the command of this word and these fields, or their fault
 abbrev pub command_in : List ℕ → List (List ℕ) → Result Command FaultKind
 command_in word fields = ruled_command_in history_rules word fields
 
--- the refusal of a number from 1 to 17
+-- the refusal with this number from 1 to 17
 abbrev pub refusal_of : ℕ → Refusal
 refusal_of n =
     if nat_eq n 1 then Zero
@@ -39,11 +39,11 @@ refusal_of n =
     else (if nat_eq n 15 then NoMesh
     else (if nat_eq n 16 then TooLate else NotEmpty)))))))))))))))
 
--- a refusal whose number was read, with its own name
+-- the refusal, if this is its name, or else a fault
 abbrev pub named_in : Refusal → List ℕ → Result Refusal FaultKind
 named_in refusal name = refuse_if Word (not (are_same name (name_of refusal))) >>= λ _. Ok refusal
 
--- a refusal by its number and its name
+-- the refusal of this number and this name, or a fault if the two don't fit together
 abbrev pub refusal_in : List ℕ → List ℕ → Result Refusal FaultKind
 refusal_in number name = number_in 1 17 number >>= λ n. named_in (refusal_of n) name
 
@@ -73,7 +73,7 @@ peeked_in fields = one_field fields >>= λ f. byte_in f >>= λ byte. Ok (Byte by
 abbrev pub refused_in : List (List ℕ) → Result Reply FaultKind
 refused_in fields = two_fields fields >>= λ f. refusal_in f.0 f.1 >>= λ refusal. Ok (Refused refusal)
 
--- a reply by its word
+-- the reply of this word and these fields, or their fault
 abbrev pub reply_in : List ℕ → List (List ℕ) → Result Reply FaultKind
 reply_in word fields =
     if are_same word (codes "object") then object_in fields
@@ -83,51 +83,51 @@ reply_in word fields =
     else (if are_same word (codes "byte") then peeked_in fields
     else (if are_same word (codes "refused") then refused_in fields else Err Word)))))
 
--- the field is the arrow between a command and its answer
+-- whether the field is the arrow between a command and its answer
 abbrev pub is_arrow : List ℕ → Bool
 is_arrow field = are_same field (codes "->")
 
--- the fields before the one at a place, and those behind it
+-- the fields before and after a place, if there is one
 abbrev pub parts_at : List (List ℕ) → Option ℕ → Option (List (List ℕ) × List (List ℕ))
 parts_at fields None = None
 parts_at fields (Some place) = Some (take place fields, drop (place + 1) fields)
 
--- the fields before the first arrow, and those behind it
+-- the fields before and after the first arrow, if there is one
 abbrev pub arrow_split : List (List ℕ) → Option (List (List ℕ) × List (List ℕ))
 arrow_split fields = parts_at fields (position is_arrow fields)
 
--- `W COMMAND`: a worker and what it asked
+-- `W COMMAND`: a worker and its command
 abbrev pub asked_in : List (List ℕ) → Result (ℕ × Command) FaultKind
 asked_in [] = Err Word
 asked_in (worker ∷ []) = Err Word
 asked_in (worker ∷ word ∷ fields) = number_in 0 65535 worker >>= λ asking. command_in word fields >>= λ command. Ok (asking, command)
 
--- what was answered
+-- the reply in these fields, the first of which is its word
 abbrev pub answer_in : List (List ℕ) → Result Reply FaultKind
 answer_in [] = Err Word
 answer_in (word ∷ fields) = reply_in word fields
 
--- an entry by the fields before its arrow and those behind it, from left to right
+-- the entry of the fields before and after its arrow, or its first fault from left to right
 abbrev pub entry_of : List (List ℕ) → List (List ℕ) → Result Entry FaultKind
 entry_of before behind =
     asked_in before >>= λ asked. answer_in behind >>= λ reply. Ok (record { worker = asked.0; command = asked.1; reply = reply })
 
--- an entry by its fields
+-- the entry of these fields, at most 35 and none of them empty, or its fault
 abbrev pub entry_fields : List (List ℕ) → Result Entry FaultKind
 entry_fields fields =
     refuse_if Word (list_any is_empty fields) >>= λ _. refuse_if Word (nat_lt 35 (length fields)) >>= λ _.
     or_refuse Word (arrow_split fields) >>= λ parts. entry_of parts.0 parts.1
 
--- what the line of an entry, without its end, is read as, or its fault
+-- the entry of a line, without the line's end, or its fault
 abbrev pub entry_in : List ℕ → Result Entry FaultKind
 entry_in line = bytes_fit line >>= λ _. entry_fields (line_fields line)
 
--- the first line by its fields: `history 1`
+-- success if these are the fields of the first line, `history 1`, or else the fault
 abbrev pub head_fields : List (List ℕ) → Result (Unit {0}) FaultKind
 head_fields [] = Err Word
 head_fields (word ∷ fields) =
     refuse_if Word (list_any is_empty (word ∷ fields)) >>= λ _. header_in (codes "history") 1 1 word fields >>= λ _. Ok tt
 
--- that a line, without its end, is the first one of a history, or its fault
+-- success if the line, without its end, is the first line of a history, or else its fault
 abbrev pub head_in : List ℕ → Result (Unit {0}) FaultKind
 head_in line = bytes_fit line >>= λ _. head_fields (line_fields line)

@@ -1,4 +1,4 @@
--- What is known of an entry that is read in one pass over the text.
+-- What holds of an entry that is read in one pass over the text.
 use Rattle.std.specs.Prelude.{◌≡◌, ℕ, ◌≤◌, List, ◌∷◌, ◌++◌, Ok, length}
 use Rattle.model_words.specs.Commands.{IsInRange}
 use Rattle.mesh_fields.specs.Commands.{plain_command}
@@ -7,7 +7,8 @@ use Rattle.mesh_history.specs.HistoryFiles.{entry_in}
 use Rattle.mesh_history.specs.RecordedWords.{IsNarrow, IsSized, plain_entry}
 use Rattle.mesh_history.specs.declared.words.RecordedEntry.{RecordedEntry}
 
--- the text's first line is read as this entry, and this is the rest behind the line's end
+-- the text's first line, of at most 1,024 bytes, is read as this entry, and `rest` is the text after the line's end.
+-- The entry's command and reply are in their ranges
 pub record IsQuickEntry (text : List ℕ) (entry : RecordedEntry) (rest : List ℕ) : Type 0 where
   pub line : List ℕ
   pub whole : text ≡ line ++ 10 ∷ rest

@@ -1,4 +1,4 @@
--- What is read of the text of a recorded history: its entries up to the first fault, and that fault.
+-- The reading of a recorded history's text: the entries before the first fault, and that fault.
 use Rattle.std.specs.Prelude.{ℕ, ◌+◌, Bool, if◌then◌else◌, nat_eq, nat_le, List, [], ◌∷◌, ◌++◌, Option, Some, None, Result, Ok, Err}
 use Rattle.model_jobs.specs.JobFiles.{fault_at, is_empty, or_fault}
 use Rattle.model_memory.specs.Plain.{Entry}
@@ -15,24 +15,24 @@ pub data LineRead : Type 0 where
   Head : LineRead
   OfEntry : Entry → LineRead
 
--- what a line is read as that has so many before it: the first is the head
+-- what a line after `lines` lines is read as: the first line as the head, every other as an entry
 abbrev pub line_in : ℕ → List ℕ → Result LineRead FaultKind
 line_in lines line = if nat_eq lines 0 then (head_in line >>= λ _. Ok Head) else (entry_in line >>= λ entry. Ok (OfEntry entry))
 
--- so many lines are all that a history may have
+-- whether a history with this number of lines may have no further line
 abbrev pub is_full : ℕ → Bool
 is_full lines = nat_le 4294967295 lines
 
--- the fault of a text that has more
+-- the fault of a text with more lines than a history may have
 abbrev pub too_long : TextFault
 too_long = fault_at 0 TooLong
 
--- the fault of a line behind so many that is too long
+-- the fault of a line with too many bytes that follows `lines` lines
 abbrev pub long_line : ℕ → TextFault
 long_line lines = if is_full lines then too_long else fault_at (lines + 1) LongLine
 
--- the fault of a text that ends behind so many lines with these bytes behind its last line end, if it has one: there is
--- no line, or bytes of one
+-- the fault, if any, of a text that ends after `lines` lines and then the bytes `rest`, without a line end: there is no
+-- line, bytes follow the last line end, or there are too many lines
 abbrev pub end_fault : ℕ → List ℕ → Option TextFault
 end_fault lines rest =
     if is_full lines then (if is_empty rest then None else Some too_long)
@@ -43,34 +43,34 @@ pub record Reading : Type 0 where
   pub entries : List Entry
   pub fault : Option TextFault
 
--- the text ends, with this fault or with none
+-- the reading without an entry, and with this fault or none
 abbrev pub ends_with : Option TextFault → Reading
 ends_with fault = record { entries = []; fault = fault }
 
--- an entry, and what is read behind it
+-- the reading `later` with an entry before it
 abbrev pub with_entry : Entry → Reading → Reading
 with_entry entry later = record { entries = entry ∷ later.entries; fault = later.fault }
 
--- entries, and what is read behind them
+-- the reading `later` with these entries before it
 abbrev pub with_entries : List Entry → Reading → Reading
 with_entries entries later = record { entries = entries ++ later.entries; fault = later.fault }
 
--- what the next line is read as behind so many, or the fault of the text there
+-- what the next line, after `lines` lines, is read as, or the fault of the text there
 abbrev pub next_in : ℕ → List ℕ → Result LineRead TextFault
 next_in lines line = if is_full lines then Err too_long else or_fault (lines + 1) (line_in lines line)
 
--- what was read of a line, and what is read behind it: a fault ends the reading
+-- the reading from a line on, by what this line is read as and the reading of the later lines: a fault ends the reading
 abbrev pub read_on : Result LineRead TextFault → Reading → Reading
 read_on (Ok Head) later = later
 read_on (Ok (OfEntry entry)) later = with_entry entry later
 read_on (Err fault) later = ends_with (Some fault)
 
--- what is read of the lines that are left behind so many, the last of which is what follows the last line end
+-- the reading of these lines, which follow `lines` lines; the last of them is the bytes after the last line end
 abbrev pub reading_from : ℕ → List (List ℕ) → Reading
 reading_from lines [] = ends_with None
 reading_from lines (rest ∷ []) = ends_with (end_fault lines rest)
 reading_from lines (line ∷ next ∷ more) = read_on (next_in lines line) (reading_from (lines + 1) (next ∷ more))
 
--- what is read of a text
+-- the reading of a text
 abbrev pub reading_of : List ℕ → Reading
 reading_of text = reading_from 0 (text_lines text)

@@ -1,4 +1,4 @@
--- Why no order explains a history, as a text. This project's own choice.
+-- Why no order explains a history, as a text. The wording is this project's own choice.
 use Rattle.std.specs.Prelude.{ℕ, ◌+◌, Bool, true, false, List, [], ◌∷◌, ◌++◌, codes}
 use Rattle.std.specs.List.{flat_map}
 use Rattle.arrayvec.specs.ArrayVec.{ArrayVec}
@@ -14,38 +14,38 @@ use Rattle.mesh_linearizability.specs.declared.possible.Loads.{Loads}
 use Rattle.mesh_linearizability.specs.declared.possible.Possible.{Possible}
 use Rattle.mesh_linearizability.specs.declared.possible.Possible.TheVariants.{Only, Loads as OneOf}
 
--- an answer that no order explains, before what the call could have answered
+-- the text of an answer that no order explains, which the possible answers follow
 abbrev pub unexplained_text : RecordedReply → List ℕ
 unexplained_text answer = codes "no order explains " ++ recorded_text answer ++ codes "; possible: "
 
--- a load
+-- the text of a load's answer
 abbrev pub load_text : ArrayVec ℕ → List ℕ
 load_text load = codes "bytes " ++ bytes_text load.items
 
--- a load behind another one
+-- the text of a load's answer after another one
 abbrev pub later_text : ArrayVec ℕ → List ℕ
 later_text load = codes " | " ++ load_text load
 
--- loads, with a bar between any two
+-- the texts of loads' answers, with a bar between any two
 abbrev pub least_text : List (ArrayVec ℕ) → List ℕ
 least_text [] = []
 least_text (load ∷ later) = load_text load ++ flat_map later_text later
 
--- two dots where there are more than are kept
+-- a bar and two dots if there are more possible loads than are stored
 abbrev pub rest_text : Bool → List ℕ
 rest_text true = codes " | .."
 rest_text false = []
 
--- the loads that are possible
+-- the text of the possible answers of a load
 abbrev pub loads_text : Loads → List ℕ
 loads_text loads = least_text loads.least.items ++ rest_text loads.are_more
 
--- what a call could have answered
+-- the text of what a call could have answered
 abbrev pub possible_text : Possible → List ℕ
 possible_text (Only answer) = recorded_text answer
 possible_text (OneOf loads) = loads_text loads
 
--- why no order explains a history
+-- the text of a flaw: why no order explains a history
 abbrev pub flaw_text : Flaw → List ℕ
 flaw_text (Outside NotAfterNew) = codes "not after its new"
 flaw_text (Outside NotBeforeFree) = codes "not before its free"

@@ -1,4 +1,4 @@
--- The text of a judgement. This project's own choice.
+-- The text of a judgement. The wording is this project's own choice.
 use Rattle.std.specs.Prelude.{ℕ, List, ◌++◌, codes}
 use Rattle.model_jobs.specs.Texts.{ended, number_field}
 use Rattle.mesh_configurations.specs.declared.faults.JudgeFault.{JudgeFault}
@@ -10,12 +10,12 @@ use Rattle.mesh_judge.specs.FlawTexts.{flaw_text}
 use Rattle.mesh_judge.specs.declared.judging.Judgement.{Judgement}
 use Rattle.mesh_judge.specs.declared.judging.Judgement.TheVariants.{InOrder, Overlapping}
 
--- why the judge stopped, where at most so many configurations may be met
+-- the text of why the judge stopped, if it may meet at most `most` configurations
 abbrev pub undecided_text : ℕ → JudgeFault → List ℕ
 undecided_text most TooManyPending = codes "more than 64 pending accesses to one object"
 undecided_text most fault = codes "more than" ++ number_field most ++ codes " configurations"
 
--- what is found of calls that overlap
+-- the text of a verdict on overlapping calls
 abbrev pub call_text : ℕ → CallVerdict → List ℕ
 call_text most (Linearizable entries) = codes "linearizable" ++ number_field entries ++ codes " entries"
 call_text most (Flawed line flaw) = codes "line" ++ number_field line ++ codes ": " ++ flaw_text flaw

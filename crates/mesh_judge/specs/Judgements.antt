@@ -11,21 +11,21 @@ use Rattle.mesh_linearizability.specs.Checks.{HasJudged as HasJudgedOverlapping,
 use Rattle.mesh_judge.specs.declared.judging.Judgement.{Judgement}
 use Rattle.mesh_judge.specs.declared.judging.Judgement.TheVariants.{InOrder, Overlapping}
 
--- what is left to read of a source of which some bytes were looked at
+-- the rest of a source, if `begun` was read ahead and `left` is what follows
 abbrev pub left_of : List ℕ → Option (List ℕ) → Option (List ℕ)
 left_of begun left = prepend_known begun left
 
--- the first line of a history of calls that overlap
+-- the first line, with its end, of a history of overlapping calls
 abbrev pub overlapping_line : List ℕ
 overlapping_line = ended (codes "history 2")
 
--- what was found of the text that the device gave, by its first line
+-- what was found of the text that the device gave; the text's first line decides which kind of history it is
 abbrev pub HasJudged : Option (List ℕ) → Option (List ℕ) → Judgement → Type 0
 HasJudged left left' (InOrder verdict) = StartsOtherwise overlapping_line left × HasJudgedInOrder left left' (outcome_of verdict)
 HasJudged left left' (Overlapping verdict) = StartsWith overlapping_line left × HasJudgedOverlapping left left' verdict
 
--- why nothing was found: the text has this fault, as a history of its kind. Nothing is said where the input or an
--- allocation failed
+-- why there is no judgement: the text, as a history of its kind, has this fault. If the input or an allocation failed,
+-- nothing is claimed
 abbrev pub HasNotJudged : Option (List ℕ) → Option (List ℕ) → CallError → Type 0
 HasNotJudged left left' (Text fault) =
     (StartsOtherwise overlapping_line left × HasJudgedInOrder left left' (Faulty fault))

@@ -1,4 +1,4 @@
--- Calls that overlap, as a history in an order that explains them.
+-- Overlapping calls as a history, in an order that explains them.
 use Rattle.std.specs.Prelude.{◌≡◌, ℕ, List, Option, None, map}
 use Rattle.std.specs.Io.KnownBytes.{Consumes, IsAtEnd}
 use Rattle.std.specs.List.{All}
@@ -10,24 +10,24 @@ use Rattle.mesh_calls.specs.declared.inputs.CallInput.{CallInput}
 use Rattle.mesh_calls.specs.declared.words.TimedCall.{TimedCall}
 use Rattle.mesh_linearization.specs.OrderTexts.{ordered_text}
 
--- these are the calls of a text without a fault
+-- the text has no fault, and these are its calls, each in its ranges
 pub record AreCallsOf (text : List ℕ) (calls : List TimedCall) : Type 0 where
   pub reading : calls_of text ≡ record { calls = map plain_call calls; fault = None }
   pub are_read : All IsReadCall calls
 
--- these calls have come, of what the device gave
+-- these calls, each in its ranges, were read of what the device gave so far
 pub record HaveComeSoFar (history : CallInput) (left left' : Option (List ℕ)) (calls : List TimedCall) : Type 0 where
   pub come : HasCome history left left' (map plain_call calls)
   pub are_read : All IsReadCall calls
 
--- the device gave a text without a fault, which has these calls, and is at its end
+-- the device is at its end and gave a text without a fault, and these are the text's calls
 pub record HaveCome (left left' : Option (List ℕ)) (calls : List TimedCall) : Type 0 where
   pub text : List ℕ
   pub taken : Consumes left left' text
   pub at_end : IsAtEnd left'
   pub are : AreCallsOf text calls
 
--- a text has no fault, and the history is its calls in an order that explains them
+-- the text has no fault, and the history consists of its calls in an order that explains them
 pub record IsOrderedHistory (text history : List ℕ) : Type 0 where
   pub calls : List Call
   pub reading : calls_of text ≡ record { calls = calls; fault = None }

@@ -1,4 +1,4 @@
--- The accesses to an object as the calls of a timed judge.
+-- The accesses to an object, as the calls that a timed judge follows.
 use Rattle.std.specs.Prelude.{ℕ, suc, if◌then◌else◌, ◌&&◌, nat_eq, Bool, List, [], ◌∷◌, length, map}
 use Rattle.model_words.specs.declared.commands.Command.{Command}
 use Rattle.model_words.specs.declared.commands.Command.TheVariants.{Put, Get, Addr}
@@ -11,7 +11,7 @@ use Rattle.mesh_object_bytes.specs.declared.access.Access.{Access}
 use Rattle.mesh_object_bytes.specs.declared.access.Access.TheVariants.{Store, Load, Nothing, Elsewhere}
 use Rattle.mesh_timed_judge.specs.TimedCalls.{Timed}
 
--- what a call was recorded to do to the object at an address
+-- the access that a call was recorded to make to the object at `address`
 abbrev pub access_of : ℕ → Command → Reply → Access
 access_of address (Put cell off bytes) Done = Store off bytes
 access_of address (Get cell off len) (Bytes answered) = Load off len answered
@@ -23,11 +23,11 @@ pub record PlacedCall : Type 0 where
   pub place : ℕ
   pub call : Call
 
--- the call is an access to the object of a cell
+-- whether the call is an access to the object of a cell
 abbrev pub is_access_of : ℕ → Call → Bool
 is_access_of cell call = is_access call.entry.command && nat_eq (cell_at call) cell
 
--- the accesses to the object of a cell with their places, of which the first call has this one
+-- the accesses to the object of a cell, with their places; the first call of the list has the place `place`
 abbrev pub placed_from : ℕ → ℕ → List Call → List PlacedCall
 placed_from place cell [] = []
 placed_from place cell (call ∷ calls) =
@@ -42,6 +42,6 @@ timed_of address placed = record {
   call = access_of address placed.call.entry.command placed.call.entry.reply;
 }
 
--- the accesses to the object of a cell, which is at an address
+-- the accesses to the object of a cell, if this object is at `address`
 abbrev pub timed_accesses : ℕ → ℕ → List Call → List (Timed Access)
 timed_accesses cell address calls = map (timed_of address) (placed_from 0 cell calls)

@@ -8,7 +8,7 @@ use Rattle.mesh_linearizability.specs.Queues.{object_of}
 use Rattle.mesh_linearizability.specs.declared.pending.Pending.{Pending}
 use Rattle.mesh_linearizability.specs.declared.pending.Pending.TheVariants.{Made, Refused, Free, Access, Wrong}
 
--- what is to be done at the end of a `new` with this answer
+-- `pending` is what is to be done at the end of a `new` of `len` bytes in this cell, with this answer
 abbrev pub IsNewPending : ℕ → ℕ → Reply → Pending → Type 0
 IsNewPending cell len reply (Made x) = (word : ℕ) → object_made (New cell len word) reply ≡ Some (object_of x)
 IsNewPending cell len reply (Refused c l refusal) = (c ≡ cell) × (l ≡ len) × (reply ≡ RefusedReply refusal)

@@ -14,7 +14,7 @@ use Rattle.mesh_linearizability.specs.declared.objects.NewObject.{NewObject}
 use Rattle.mesh_linearizability.specs.declared.pending.Pending.{Pending}
 use Rattle.mesh_linearizability.specs.declared.pending.Pending.TheVariants.{Access}
 
--- what a judge of accesses knows
+-- the state of a judge of accesses
 abbrev pub AccessJudge : Type 0
 AccessJudge = TimedStanding State AnAccess
 
@@ -22,13 +22,14 @@ AccessJudge = TimedStanding State AnAccess
 abbrev pub live_of : (ℕ → Option Life) → ℕ → Option Object
 live_of lives cell = option_map (λ life. object_of life.object) (lives cell)
 
--- a judge follows the accesses to an object: those that wait are open, and some configuration is left
+-- the judge has followed the accesses to the object: exactly the waiting accesses are open, and some configuration is
+-- left
 pub record IsFollowed (calls : List Call) (waits : ℕ → Option Pending) (object : NewObject) (judge : AccessJudge) : Type 0 where
   pub follows : IsJudgeOf effect (first_state object.len) (timed_accesses object.cell object.address calls) judge
   pub some : HasSome effect judge
   pub is_open : (i : ℕ) (a : Call) → IsAt calls i a → is_access_of object.cell a ≡ true → IsOpen judge i ↔ IsWaiting waits a i
 
--- an object's judge follows its accesses, and there is none where there was no access
+-- if the object has a judge, the judge has followed the accesses to it; otherwise there was no access
 abbrev pub IsJudged : List Call → (ℕ → Option Pending) → NewObject → Option AccessJudge → Type 0
 IsJudged calls waits object None = placed_from 0 object.cell calls ≡ []
 IsJudged calls waits object (Some judge) = IsFollowed calls waits object judge
@@ -37,8 +38,8 @@ IsJudged calls waits object (Some judge) = IsFollowed calls waits object judge
 abbrev pub IsExplained : List Call → Object → Type 0
 IsExplained calls x = (order : List Call) × ExplainsAccesses calls x.cell x.len x.address order
 
--- each live object is judged, some order explains the accesses to each object that was freed, and no access to a freed
--- object waits
+-- each live object is judged, and each waiting access is to a live object. If an object's `new` has ended and the
+-- object is freed, some order explains the accesses to it
 pub record Judges (calls : List Call) (waits : ℕ → Option Pending) (lives : ℕ → Option Life) : Type 0 where
   pub judged : (c : ℕ) (life : Life) → lives c ≡ Some life → IsJudged calls waits life.object life.judge
   pub settled : (i : ℕ) (a : Call) (x : Object) → HasEnded calls waits i → IsMadeAt calls i a x → IsFreed calls x.cell → IsExplained calls x

@@ -9,26 +9,26 @@ use Rattle.mesh_linearizability.specs.declared.life.AccessEnd.{AccessEnd}
 use Rattle.mesh_linearizability.specs.declared.life.AccessEnd.TheVariants.{Explained, Unexplained}
 use Rattle.mesh_linearizability.specs.declared.life.Life.{Life}
 
--- some configuration is left at the end of an access
+-- whether some configuration is left at the end of an access
 abbrev pub is_explained : AccessEnd → Bool
 is_explained Explained = true
 is_explained (Unexplained answer) = false
 
--- a judge that has followed nothing
+-- the judge is new: it has followed no access and has a configuration
 pub record IsNewJudge (len : ℕ) (judge : AccessJudge) : Type 0 where
   pub follows : IsJudgeOf effect (first_state len) [] judge
   pub some : HasSome effect judge
   pub none_open : (number : ℕ) → IsOpen judge number → ⊥
 
--- an object's own judge, or a new one where it had none
+-- `first` is the object's judge, or a new judge if the object had none
 abbrev pub IsFirst : Life → AccessJudge → Type 0
 IsFirst old first = (old.judge ≡ Some first) ⊎ ((old.judge ≡ None) × IsNewJudge old.object.len first)
 
--- the object has a judge now
+-- the object has a judge now: its old one, or a new one if it had none
 abbrev pub HasJudge : Life → Life → Type 0
 HasJudge old new = (judge : AccessJudge) × (new.judge ≡ Some judge) × IsFirst old judge
 
--- the judge has taken the begin of the access of a number: the object's own, or a new one where it had none
+-- the object's judge, or a new one if it had none, has followed the begin of the access `number`, which is open now
 pub record HasBegun (old new : Life) (number : ℕ) (access : AnAccess) : Type 0 where
   pub first : AccessJudge
   pub is_first : IsFirst old first
@@ -40,7 +40,7 @@ pub record HasBegun (old new : Life) (number : ℕ) (access : AnAccess) : Type 0
   pub is_open : (n : ℕ) → IsOpen judge n ↔ ((n ≡ number) ⊎ IsOpen first n)
   pub some : HasSome effect first → HasSome effect judge
 
--- the judge has taken the end of the access of a number, and this is whether some configuration is left
+-- the object's judge has followed the end of the access `number`, and `left` is whether some configuration is left
 pub record HasEndedAt (old new : Life) (number : ℕ) (left : Bool) : Type 0 where
   pub first : AccessJudge
   pub is_first : old.judge ≡ Some first

@@ -1,4 +1,4 @@
--- The objects of calls that overlap, at a moment at which some of the calls have ended.
+-- The objects of overlapping calls, at a moment when some of the calls have ended.
 use Rattle.std.specs.Prelude.{◌≡◌, ◌≢◌, ◌⊎◌, ℕ, ◌≤◌, List, ◌++◌, Option, Some}
 use Rattle.model_intervals.specs.Intervals.{Call}
 use Rattle.model_intervals.specs.Objects.{Object, IsExplainedByObject, IsFairNew, IsFreedBy, IsMadeAt, Meet}
@@ -32,8 +32,8 @@ pub record IsNamed (calls : List Call) (ended : ℕ → Type 0) (cell : ℕ) : T
   pub is_new : IsNew call.entry.command
   pub names : cell_at call ≡ cell
 
--- the live objects by their cells, the cell of each `new` that has ended, and the serials that were given, at a moment
--- at which some of the calls have ended. Those that have ended meet the conditions on the objects of a history
+-- if the calls in `ended` have ended: `live` has the live objects by their cells, `cells` the cell of each ended `new`,
+-- and `serials` the serials that these returned. The ended calls meet the conditions on the objects of a history
 pub record Lives (calls : List Call) (ended : ℕ → Type 0) (live : ℕ → Option Object) (cells serials : ℕ → Type 0) : Type 0 where
   pub has_cell : (i : ℕ) (a : Call) → ended i → IsAt calls i a → IsNew a.entry.command → cells (cell_at a)
   pub of_cell : (c : ℕ) → cells c → IsNamed calls ended c
@@ -48,10 +48,10 @@ pub record Lives (calls : List Call) (ended : ℕ → Type 0) (live : ℕ → Op
   pub live_is : (c : ℕ) (x : Object) → live c ≡ Some x → (x.cell ≡ c) × NoneFrees calls c × IsMade calls ended x
   pub made_is : (i : ℕ) (a : Call) (x : Object) → ended i → IsMadeAt calls i a x → (live x.cell ≡ Some x) ⊎ IsFreed calls x.cell
 
--- calls that begin at a moment or behind it
+-- each of these calls begins at the moment or later
 abbrev pub BeginFrom : ℕ → List Call → Type 0
 BeginFrom moment more = (place : ℕ) (call : Call) → IsAt more place call → moment ≤ call.begin
 
--- whatever calls begin from a moment on, these and they are no history that is explained by object
+-- no calls that begin from the moment on continue these calls to a history that is explained by object
 abbrev pub CannotBe : List Call → ℕ → Type 0
 CannotBe calls moment = (more : List Call) → BeginFrom moment more → IsHistory (calls ++ more) → IsExplainedByObject (calls ++ more) → ⊥

@@ -12,23 +12,23 @@ use Rattle.mesh_linearizability.specs.declared.objects.NewObject.{NewObject}
 use Rattle.mesh_linearizability.specs.declared.pending.Pending.{Pending}
 use Rattle.mesh_linearizability.specs.declared.pending.Pending.TheVariants.{Made, Refused, Free, Access, Wrong}
 
--- an object, as one of the definitions
+-- an object of the code, as an object of the definitions
 abbrev pub object_of : NewObject → Object
 object_of x = record { cell = x.cell; len = x.len; serial = x.serial; address = x.address }
 
--- the place of a call in the order of ends: by its end, at equal ends by its place
+-- the key of a call in the order of ends: first by its end, then by its place
 abbrev pub key_of : Call → ℕ → ℕ
 key_of call place = call.end * 4294967296 + place
 
--- a call that has begun waits for its end
+-- the call, which is at this place, waits for its end
 abbrev pub IsWaiting : (ℕ → Option Pending) → Call → ℕ → Type 0
 IsWaiting waits call place = (pending : Pending) × (waits (key_of call place) ≡ Some pending)
 
--- the call at a place has ended
+-- the call at a place has ended: nothing waits under its key
 abbrev pub HasEnded : List Call → (ℕ → Option Pending) → ℕ → Type 0
 HasEnded calls waits place = (call : Call) × IsAt calls place call × (waits (key_of call place) ≡ None)
 
--- what is to be done at the end of a call without a flaw
+-- `pending` is what is to be done at the end of this call, and isn't a flaw
 abbrev pub Suits : Call → Pending → Type 0
 Suits call (Made x) = object_made call.entry.command call.entry.reply ≡ Some (object_of x)
 Suits call (Refused cell len refusal) = (word : ℕ) × (call.entry.command ≡ New cell len word) × (call.entry.reply ≡ RefusedReply refusal)
@@ -36,7 +36,7 @@ Suits call (Free cell) = IsFree call.entry.command × (cell_at call ≡ cell)
 Suits call (Access cell) = (is_access call.entry.command ≡ true) × (cell_at call ≡ cell)
 Suits call (Wrong outside) = ⊥
 
--- the call that waits at a place in the order of ends
+-- some call waits under this key, and `pending` is what is to be done at its end, without a flaw
 pub record WaitsAt (calls : List Call) (key : ℕ) (pending : Pending) : Type 0 where
   pub place : ℕ
   pub call : Call
@@ -44,15 +44,15 @@ pub record WaitsAt (calls : List Call) (key : ℕ) (pending : Pending) : Type 0 
   pub is_key : key ≡ key_of call place
   pub suits : Suits call pending
 
--- what waits are calls that have begun. A call that waits ends no earlier than any call begins, and no earlier than any
--- call that has ended
+-- only calls that have begun wait. A waiting call ends no earlier than any call began, and no earlier than any ended
+-- call ended. There are at most 2^32 calls
 pub record Queue (calls : List Call) (waits : ℕ → Option Pending) : Type 0 where
   pub keyed : (key : ℕ) (pending : Pending) → waits key ≡ Some pending → WaitsAt calls key pending
   pub reach : (i j : ℕ) (a b : Call) → IsAt calls i a → IsAt calls j b → IsWaiting waits a i → b.begin ≤ a.end
   pub order : (i j : ℕ) (a b : Call) → HasEnded calls waits i → IsAt calls i a → IsAt calls j b → IsWaiting waits b j → a.end ≤ b.end
   pub few : length calls ≤ 4294967296
 
--- what a history requires of calls as soon as they have begun
+-- the conditions of a history that calls must meet as soon as they have begun
 pub record Begun (calls : List Call) : Type 0 where
   pub take_time : All (λ call. call.begin ≤ call.end) calls
   pub have_effects : All (λ call. HasEffect call.entry.command call.entry.reply) calls
@@ -61,8 +61,8 @@ pub record Begun (calls : List Call) : Type 0 where
   pub before_free : (i j : ℕ) (call free : Call) → i ≢ j → IsAt calls i call → IsAt calls j free → (IsNew call.entry.command → ⊥) → IsFree free.entry.command
       → cell_at call ≡ cell_at free → call.end < free.begin
 
--- a call may begin after calls that have begun: those that have ended did so before it begins, and those that wait end
--- no earlier than it begins
+-- the call is valid and may begin next: no call so far began later, the ended calls ended before the new call begins,
+-- and the waiting calls end no earlier than it begins
 pub record MayBegin (calls : List Call) (waits : ℕ → Option Pending) (call : Call) : Type 0 where
   pub takes_time : call.begin ≤ call.end
   pub has_effect : HasEffect call.entry.command call.entry.reply
@@ -72,7 +72,8 @@ pub record MayBegin (calls : List Call) (waits : ℕ → Option Pending) (call :
   pub within : (i : ℕ) (a : Call) → IsAt calls i a → IsWaiting waits a i → call.begin ≤ a.end
   pub few : length calls < 4294967296
 
--- no history goes on so: whatever calls begin from the begin of one of these on, they are none
+-- no history continues these calls: for some call among them, no calls that begin from its begin on continue these
+-- calls to a history
 pub record CannotGoOn (calls : List Call) : Type 0 where
   pub place : ℕ
   pub call : Call

@@ -1,4 +1,4 @@
--- A timeline, and what it knows of the calls that have begun.
+-- A timeline, and the calls that it represents.
 use Rattle.std.specs.Prelude.{◌≡◌, ◌≢◌, ℕ, ◌*◌, ◌%◌, ◌<◌, ◌≤◌, List, [], ◌∷◌, ◌++◌, Option, Some, length}
 use Rattle.std.specs.Ordering.{nat_cmp}
 use Rattle.std.specs.BTreeMap.{get}
@@ -24,35 +24,37 @@ lives_of t = get nat_cmp t.lives
 abbrev pub starts_of : Timeline → ℕ → Option ℕ
 starts_of t = get nat_cmp t.starts
 
--- what the parts of a timeline know, with these calls in wait
+-- the timeline without its queue represents these calls, if `waits` are the waiting calls
 abbrev pub StandsWith : List Call → (ℕ → Option Pending) → Timeline → Type 0
 StandsWith calls waits t = IsState calls waits (lives_of t) (starts_of t) (Has t.cells) (Has t.serials) (Has t.freed_twice)
 
--- the timeline knows these calls
+-- the timeline represents these calls
 abbrev pub Stands : List Call → Timeline → Type 0
 Stands calls t = StandsWith calls (waits_of t) t
 
--- `g` gives this at `k`, and at each other number what `f` gives
+-- `g` returns `v` at `k`, and the value of `f` at each other number
 abbrev pub IsSetAt : {X : Type 0} → (ℕ → Option X) → (ℕ → Option X) → ℕ → Option X → Type 0
 IsSetAt f g k v = (g k ≡ v) × ((q : ℕ) → q ≢ k → g q ≡ f q)
 
--- a call of this number and this entry has begun, and this is to be done at its end
+-- if a call with this number and this entry may begin, it has begun in the new timeline, and `pending` is to be done at
+-- its end
 abbrev pub HasBegunSo : Timeline → Timeline → ℕ → Entry → Pending → Type 0
 HasBegunSo old new number entry pending = (calls : List Call) (call : Call) (waits' : ℕ → Option Pending) → length calls ≡ number → call.entry ≡ entry
     → Stands calls old → MayBegin calls (waits_of old) call → StartsWaiting calls call (waits_of old) waits' pending → StandsWith (calls ++ call ∷ []) waits' new
 
--- the access of a number has begun at the live object of a cell
+-- the access `number` to the live object of the cell has begun
 abbrev pub HasBegunIn : (ℕ → Option Life) → (ℕ → Option Life) → ℕ → ℕ → Entry → Type 0
 HasBegunIn lives lives' cell number entry = (old new : Life) × (lives cell ≡ Some old) × IsSetAt lives lives' cell (Some new) × (new.object ≡ old.object)
     × HasBegun old new number (access_of old.object.address entry.command entry.reply)
 
--- the call at a key has ended, and no flaw is found
+-- the waiting call that ends first, which has this number, has ended in the new timeline, and no flaw is found
 abbrev pub HasEndedSo : Timeline → Timeline → ℕ → Pending → Type 0
 HasEndedSo old new number pending = (calls : List Call) (waits : ℕ → Option Pending) (key : ℕ) → key % 4294967296 ≡ number → StopsWaiting waits (waits_of old) key pending
     → StandsWith calls waits old → StandsWith calls (waits_of old) new
 
--- a flaw is found at the end of the call at a key: whatever calls begin from a moment after that end on, the calls that
--- have begun and these are no history that is explained by object
+-- a flaw is found at the end of the waiting call that ends first, which has this number. At each moment after that end
+-- by which all calls so far have begun, no calls that begin from then on continue the calls so far to a history that is
+-- explained by object
 abbrev pub IsFlawed : Timeline → ℕ → Pending → Type 0
 IsFlawed old number pending = (calls : List Call) (waits : ℕ → Option Pending) (key moment : ℕ) → key % 4294967296 ≡ number → StopsWaiting waits (waits_of old) key pending
     → StandsWith calls waits old → key < moment * 4294967296 → ((i : ℕ) (a : Call) → IsAt calls i a → a.begin ≤ moment) → CannotBe calls moment

@@ -1,4 +1,4 @@
--- The text of calls in an order. This project's own choice.
+-- The text of calls in an order. The format is this project's own choice.
 use Rattle.std.specs.Prelude.{ℕ, List, ◌++◌, codes, decimal}
 use Rattle.std.specs.List.{flat_map}
 use Rattle.model_memory.specs.Plain.{Entry}
@@ -9,7 +9,7 @@ use Rattle.model_jobs.specs.Texts.{command_text, ended, field, told_with}
 use Rattle.mesh_spelling.specs.Addresses.{wide_text}
 use Rattle.mesh_spelling.specs.Recordings.{recorded_head}
 
--- a command that names one object by its cell
+-- the command names one object by its cell
 abbrev pub NamesObject : Command → Type 0
 NamesObject (New cell len word) = Unit {0}
 NamesObject (Put cell off bytes) = Unit {0}
@@ -18,11 +18,11 @@ NamesObject (Free cell) = Unit {0}
 NamesObject (Addr cell) = Unit {0}
 NamesObject command = ⊥
 
--- the line of an entry, with its end: the worker, its command, and the answer, with addresses of up to 64 bits
+-- the line of an entry, with its end: the worker, its command, and the answer, whose addresses may have up to 64 bits
 abbrev pub entry_line : Entry → List ℕ
 entry_line entry =
     ended (decimal entry.worker ++ field (command_text entry.command) ++ codes " -> " ++ told_with wide_text entry.reply)
 
--- the text of a recorded history of calls in their order
+-- the text of a recorded history that has these calls in this order
 unfoldable pub ordered_text : List Call → List ℕ
 ordered_text calls = recorded_head ++ flat_map (λ call. entry_line call.entry) calls

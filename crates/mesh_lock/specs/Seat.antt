@@ -1,4 +1,4 @@
--- A seat: what one mutator thread was answered.
+-- A seat: the answers that one mutator thread was given.
 use Rattle.std.specs.Prelude.{◌≡◌, ℕ, suc, ◌<◌, ◌≤◌, List, [], ◌∷◌, ◌++◌, Option, None, is_some, length, map, refl}
 use Rattle.std.specs.Coded.{Coded, code_by, coded×, coded_list, coded_option, coded_ℕ}
 use Rattle.std.specs.List.{All}
@@ -11,7 +11,7 @@ use Rattle.mesh_mutator.specs.declared.attempts.Attempt.{Attempt}
 use Rattle.mesh_mutator.specs.declared.attempts.Attempt.TheVariants.{Blocked, Done, HistoryFull, OutOfMemory}
 use Rattle.model_memory.specs.Reads.{Kept, is_read}
 
--- a seat: its number, its calls, and how many there is room for
+-- a seat: its number, its calls, and how many calls there is room for
 pub record Seat : Type 0 where
   pub number : ℕ
   pub calls : List Kept
@@ -27,32 +27,33 @@ abbrev pub seat_code : Coded Seat
 seat_code = code_by (ℕ × (List Kept × ℕ)) (coded× coded_ℕ (coded× (coded_list kept_code) coded_ℕ))
     (λ s. (s.number, (s.calls, s.room))) (λ p. record { number = p.0; calls = p.1.0; room = p.1.1 }) (λ _. refl)
 
--- a kept call has seen a length exactly where it is a read, and is in range
+-- a kept call has seen a length of the journal if and only if it is a read, and its command is in range
 abbrev pub IsKept : Kept → Type 0
 IsKept kept = (is_some kept.seen ≡ is_read kept.command) × IsInRange kept.command
 
--- what a seat keeps
+-- a seat has room for its calls, and `IsKept` holds of each
 pub record IsSeat (s : Seat) : Type 0 where
   pub short : length s.calls ≤ s.room
   pub kept : All IsKept s.calls
 
--- the call is kept, and nothing else of the seat changes
+-- the call is added to the seat, with a length of the journal if and only if it is a read. Nothing else of the seat
+-- changes
 abbrev pub Keeps : Seat → Seat → Command → Reply → Type 0
 Keeps old new command reply = (seen : Option ℕ) × (new ≡ record old { calls = old.calls ++ record { command = command; reply = reply; seen = seen } ∷ [] })
     × (is_some seen ≡ is_read command)
 
--- the seat with one call more
+-- the seat with this call added
 abbrev pub noted : Seat → Command → Reply → Option ℕ → Seat
 noted seat command reply seen = record seat { calls = seat.calls ++ record { command = command; reply = reply; seen = seen } ∷ [] }
 
--- what an attempt that is recorded leaves of the seat: it keeps the call where it is done
+-- the seat after a recorded attempt: if the attempt is done, its call is added. Otherwise the seat is unchanged
 abbrev pub IsNoted : Seat → Seat → Command → Attempt → Type 0
 IsNoted old new command (Done reply) = new ≡ noted old command reply None
 IsNoted old new command Blocked = new ≡ old
 IsNoted old new command HistoryFull = new ≡ old
 IsNoted old new command OutOfMemory = new ≡ old
 
--- the command stores bytes, and may be blocked by a read-only page
+-- the command stores bytes, so a read-only page may block it
 abbrev pub IsStore : Command → Type 0
 IsStore (New cell len word) = ⊥
 IsStore (Put cell off bytes) = Unit {0}
@@ -64,7 +65,7 @@ IsStore (Peek addr) = ⊥
 IsStore (Poke addr byte) = Unit {0}
 IsStore (Copy to to_off from from_off len) = Unit {0}
 
--- the command makes an object, and may want memory
+-- the command makes an object, so it may run out of memory
 abbrev pub IsNew : Command → Type 0
 IsNew (New cell len word) = Unit {0}
 IsNew (Put cell off bytes) = ⊥
@@ -76,14 +77,15 @@ IsNew (Peek addr) = ⊥
 IsNew (Poke addr byte) = ⊥
 IsNew (Copy to to_off from from_off len) = ⊥
 
--- what an attempt leaves of the seat
+-- the seat after an attempt: if the attempt is done, the seat had room and its call is added. Otherwise the seat is
+-- unchanged. Only a store is blocked, and only a `new` runs out of memory
 abbrev pub IsTaken : Seat → Seat → Command → Attempt → Type 0
 IsTaken old new command (Done reply) = (length old.calls < old.room) × Keeps old new command reply
 IsTaken old new command Blocked = (new ≡ old) × IsStore command
 IsTaken old new command HistoryFull = new ≡ old
 IsTaken old new command OutOfMemory = (new ≡ old) × IsNew command
 
--- empty seats with these numbers from `k` on, and room for as many calls as is counted
+-- empty seats, numbered from `k` on, each with room for its count of calls
 abbrev pub empty_seats : ℕ → List ℕ → List Seat
 empty_seats k [] = []
 empty_seats k (count ∷ counts) = record { number = k; calls = []; room = count } ∷ empty_seats (suc k) counts

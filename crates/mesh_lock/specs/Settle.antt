@@ -1,4 +1,4 @@
--- What is returned at the end, and the errors that prevent it.
+-- The history that is returned at the end, and the errors that prevent this.
 use Rattle.std.specs.Prelude.{◌≡◌, ℕ, ◌<◌, List, None, Some, map}
 use Rattle.std.specs.List.{All}
 use Rattle.model_memory.specs.Memory.{Memory}
@@ -9,12 +9,12 @@ use Rattle.mesh_lock.specs.Seat.{Seat, calls_of_seats, numbers_of}
 use Rattle.mesh_lock.specs.declared.faults.FinishError.{FinishError}
 use Rattle.mesh_lock.specs.declared.faults.FinishError.TheVariants.{Memory as NoMemory, ReadDiffers as ReadError, SeatDiffers as SeatError, SeatMissing}
 
--- the calls of each seat that aren't reads
+-- the recorded calls of each seat: all but its reads
 abbrev pub recorded_of : List Seat → List (List Call)
 recorded_of seats = map recorded (calls_of_seats seats)
 
--- the history of journal and seats: it is legal and ends in this memory, and each worker's entries are the calls of its
--- seat, in their order
+-- the history of journal and seats: it is legal and ends in this memory. Each worker's entries are the calls of the
+-- worker's seat, in their order, and no other worker has an entry
 pub record IsEnd (count : ℕ) (seats : List Seat) (entries history : List Entry) (end : Memory) : Type 0 where
   pub seated : missing_seat count (numbers_of seats) entries ≡ None
   pub settled : AreSettled count (recorded_of seats) entries
@@ -24,7 +24,7 @@ pub record IsEnd (count : ℕ) (seats : List Seat) (entries history : List Entry
   pub calls : (w : ℕ) → w < count → calls_of w history ≡ map call_of (kept_by (calls_of_seats seats) w)
   pub no_other : All (λ entry. entry.worker < count) history
 
--- the reported error holds, and no earlier one does
+-- the reported error occurs, and no error that is looked for earlier does
 abbrev pub IsFault : ℕ → List Seat → List Entry → FinishError → Type 0
 IsFault count seats entries (SeatMissing w) = missing_seat count (numbers_of seats) entries ≡ Some w
 IsFault count seats entries (SeatError w i) =

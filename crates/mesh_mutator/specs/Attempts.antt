@@ -1,9 +1,9 @@
--- Which commands only look.
+-- Which commands only read.
 use Rattle.model_words.specs.declared.commands.Command.{Command}
 use Rattle.model_words.specs.declared.commands.Command.TheVariants.{New, Put, Get, Free, Alias, Addr, Peek, Poke, Copy}
 use Rattle.std.specs.Prelude.{◌≤◌}
 
--- the command reads and changes nothing
+-- the command only reads, and changes nothing. A `get` reads 1 to 32 bytes
 abbrev pub IsLook : Command → Type 0
 IsLook (New cell len word) = ⊥
 IsLook (Put cell off bytes) = ⊥

@@ -1,4 +1,4 @@
--- A book: a heap with its root cells and the journal of what was answered, and what an attempt at a command comes to.
+-- A book: a heap with its root cells and the journal of answered commands, and the effect of an attempt at a command.
 use Rattle.std.specs.Prelude.{◌≡◌, ◌≢◌, ℕ, ◌<◌, ◌≤◌, true, false, List, [], ◌∷◌, ◌++◌, length, map, slice_index_or, Option, Some, None, Ok, refl}
 use Rattle.std.specs.Option.{option_map}
 use Rattle.std.specs.Coded.{Coded, code_by, coded×, coded_list, coded_option, coded_ℕ}
@@ -27,11 +27,11 @@ Cells = List (Option Ref)
 abbrev pub serial_of : Ref → ℕ
 serial_of object = object.serial
 
--- the serials that the cells hold
+-- the serials in the cells
 abbrev pub serials_of : Cells → List (Option ℕ)
 serials_of cells = map (option_map serial_of) cells
 
--- what a cell holds
+-- the reference in a cell, or none
 abbrev pub cell_at : Cells → ℕ → Option Ref
 cell_at cells cell = slice_index_or cells cell None
 
@@ -39,18 +39,18 @@ cell_at cells cell = slice_index_or cells cell None
 abbrev pub memory_in : Heap → Cells → Memory
 memory_in h cells = memory_of h (serials_of cells)
 
--- each reference in a cell is of an object that was made, and has its address where it is live
+-- each reference in a cell is of an object that was made. If the object is live, it is at the reference's address
 abbrev pub AreRooted : Heap → Cells → Type 0
 AreRooted h cells = (cell : ℕ) (object : Ref) → cell_at cells cell ≡ Some object
     → (object.serial < h.next_serial) × ((live : Object) → object_of (plain_of h) object.serial ≡ Some live → live.address ≡ object.addr)
 
--- heap and cells are what the outcome says
+-- reply, heap and cells are as the outcome says
 pub record IsOutcome (h : Heap) (cells : Cells) (done : Outcome) (reply : Reply) : Type 0 where
   pub reply_is : reply ≡ done.reply
   pub memory : memory_in h cells ≡ done.memory
   pub table : table_of h ≡ done.table
 
--- a `new` that needs a new span, for which there is room
+-- the command is a `new` that needs a new span, for which there is room
 abbrev pub IsNewForSpan : Heap → Command → Type 0
 IsNewForSpan h (New cell len word) = NeedsSpan h len word
 IsNewForSpan h command = ⊥
@@ -61,8 +61,7 @@ stored_cell (New cell len word) = Some cell
 stored_cell (Alias to from) = Some to
 stored_cell command = None
 
--- what a command leaves of the heap, whatever it is answered: all of it where it looks or takes a reference, and all
--- pages where it frees
+-- what a command leaves unchanged in the heap, whatever its answer: a read or an `alias` everything, a `free` all pages
 abbrev pub KeepsHeap : Command → Heap → Heap → Type 0
 KeepsHeap (New cell len word) h h' = Unit {0}
 KeepsHeap (Put cell off bytes) h h' = Unit {0}
@@ -74,8 +73,7 @@ KeepsHeap (Peek addr) h h' = h' ≡ h
 KeepsHeap (Poke addr byte) h h' = Unit {0}
 KeepsHeap (Copy to to_off from from_off len) h h' = Unit {0}
 
--- what an answered command does to heap and cells: what the definition states, and it isn't blocked; if it is refused,
--- nothing
+-- an answered command isn't blocked, and changes heap and cells as defined. If it is refused, it changes nothing
 pub record IsAnswered (h h' : Heap) (cells cells' : Cells) (command : Command) (reply : Reply) : Type 0 where
   pub outcome : IsOutcome h' cells' (answered (memory_in h cells) (table_of h) command) reply
   pub not_held : is_held_back (memory_in h cells) (table_of h) command reply ≡ false
@@ -84,7 +82,7 @@ pub record IsAnswered (h h' : Heap) (cells cells' : Cells) (command : Command) (
   pub kept : KeepsHeap command h h'
   pub pages : HasAsManyPages h h'
 
--- what an attempt at a command does to heap and cells
+-- the effect of an attempt at a command on heap and cells
 abbrev pub IsPerformed : Heap → Heap → Cells → Cells → Command → Attempt → Type 0
 IsPerformed h h' cells cells' command (Done reply) = IsAnswered h h' cells cells' command reply
 IsPerformed h h' cells cells' command Blocked =
@@ -93,7 +91,7 @@ IsPerformed h h' cells cells' command Blocked =
 IsPerformed h h' cells cells' command HistoryFull = ⊥
 IsPerformed h h' cells cells' command OutOfMemory = IsNewForSpan h command × (h' ≡ h) × (cells' ≡ cells)
 
--- a book: heap, cells, the answered commands, and how many there is room for
+-- a book: heap, cells, the answered commands, and the capacity of the journal
 pub record Book : Type 0 where
   pub heap : Heap
   pub cells : Cells
@@ -110,11 +108,12 @@ book_code =
 abbrev pub memory_of_book : Book → Memory
 memory_of_book b = memory_in b.heap b.cells
 
--- and its table
+-- the table of a book
 abbrev pub table_of_book : Book → Table
 table_of_book b = table_of b.heap
 
--- the journal is a legal history that ends in what the book means
+-- the journal is a legal history that ends in the memory that the book means, and is within its capacity, which is at
+-- most 65,536. There are 256 cells, and each reference in a cell is of an object that was made
 pub record IsBook (b : Book) : Type 0 where
   pub cells : length b.cells ≡ 256
   pub rooted : AreRooted b.heap b.cells
@@ -123,14 +122,14 @@ pub record IsBook (b : Book) : Type 0 where
   pub limit : b.room ≤ 65536
   pub serials : b.heap.next_serial ≤ length b.entries
 
--- an answered command, and its entry, which is the only new one
+-- the journal had room, the command was answered, and its entry is the only new one
 pub record IsRecorded (old new : Book) (worker : ℕ) (command : Command) (reply : Reply) : Type 0 where
   pub had_room : length old.entries < old.room
   pub answered : IsAnswered old.heap new.heap old.cells new.cells command reply
   pub entries : new.entries ≡ old.entries ++ record { worker = worker; command = command; reply = reply } ∷ []
   pub room : new.room ≡ old.room
 
--- what an attempt of a worker comes to: recorded as it was answered where it is done, else nothing changes
+-- the effect of a worker's attempt: if it is done, it is recorded with its answer. Otherwise nothing changes
 abbrev pub IsAttempt : Book → Book → ℕ → Command → Attempt → Type 0
 IsAttempt old new worker command (Done reply) = IsRecorded old new worker command reply
 IsAttempt old new worker command Blocked =
@@ -140,7 +139,7 @@ IsAttempt old new worker command Blocked =
 IsAttempt old new worker command HistoryFull = (old.room ≤ length old.entries) × (new ≡ old)
 IsAttempt old new worker command OutOfMemory = (length old.entries < old.room) × IsNewForSpan old.heap command × (new ≡ old)
 
--- where the attempt is done this entry was added, and no other; else the book is as it was
+-- if the attempt is done, this entry was added, and no other. Otherwise the book is unchanged
 abbrev pub AddsEntry : Book → Book → ℕ → Command → Attempt → Type 0
 AddsEntry old new worker command (Done reply) =
     new.entries ≡ old.entries ++ record { worker = worker; command = command; reply = reply } ∷ []
@@ -148,18 +147,18 @@ AddsEntry old new worker command Blocked = new ≡ old
 AddsEntry old new worker command HistoryFull = new ≡ old
 AddsEntry old new worker command OutOfMemory = new ≡ old
 
--- what a command is answered that changes nothing
+-- the reply is the reference memory's to a command that changes nothing
 abbrev pub IsLooked : Heap → Cells → Command → Reply → Type 0
 IsLooked h cells command reply = Follows (plain (memory_in h cells) 0 command) (memory_in h cells) reply (memory_in h cells)
 
--- the reference is that of the live object that the cell names
+-- the cell has this reference, and it names a live object
 pub record IsNamedBy (h : Heap) (cells : Cells) (cell : ℕ) (object : Ref) : Type 0 where
   pub held : cell_at cells cell ≡ Some object
   pub live : Object
   pub named : named_by (memory_in h cells) cell ≡ Ok (record { serial = object.serial; object = live })
   pub address : live.address ≡ object.addr
 
--- what a store's answer is to its worker
+-- the result of a worker's attempt, by the result of its store
 abbrev pub attempt_of : Stored → Attempt
 attempt_of StoreDone = Done ReplyDone
 attempt_of StoreBlocked = Blocked

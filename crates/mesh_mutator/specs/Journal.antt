@@ -1,4 +1,4 @@
--- The journal: the answered commands in their order of effect, and how many there is room for.
+-- The journal: the answered commands in their order of effect, and its capacity.
 use Rattle.std.specs.Prelude.{ℕ, List, refl}
 use Rattle.std.specs.Coded.{Coded, code_by, coded×, coded_list, coded_ℕ}
 use Rattle.model_memory.specs.Plain.{Entry}

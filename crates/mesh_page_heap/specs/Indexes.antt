@@ -6,22 +6,22 @@ use Rattle.mesh_spans.specs.Groups.{groups_of}
 use Rattle.mesh_spans.specs.Index.{GroupEntry, Index, group_at, span_at}
 use Rattle.mesh_page_heap.specs.Layout.{Layout}
 
--- the class of a group
+-- the class of a group, or 0 if there is no group
 abbrev pub class_in : Option GroupEntry → ℕ
 class_in None = 0
 class_in (Some group) = group.class
 
--- the spans that are its members
+-- the spans that are members of a group
 abbrev pub members_in : Option GroupEntry → List ℕ
 members_in None = []
 members_in (Some group) = group.members
 
--- its physical pages
+-- the physical pages of a group
 abbrev pub pages_in : Option GroupEntry → List ℕ
 pages_in None = []
 pages_in (Some group) = group.pages
 
--- the contents of its slots
+-- the contents of a group's slots
 abbrev pub slots_in : Option GroupEntry → List (Option Slot)
 slots_in None = []
 slots_in (Some group) = group.slots
@@ -36,7 +36,7 @@ layout_of index = record {
   slot = λ n k. slice_index_or (slots_in (group_at index.groups n)) k None;
 }
 
--- what the table says of arena, index and meshes
+-- the table of an arena, an index, a next virtual page and running meshes
 abbrev pub table_with : Pages → Index → ℕ → List Mesh → Table
 table_with arena index next_page meshes = record {
   next_span = length index.spans;

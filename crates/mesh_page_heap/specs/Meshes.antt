@@ -1,4 +1,4 @@
--- How meshes begin, go on, are cancelled and end.
+-- How meshes begin, proceed, are cancelled and end.
 use Rattle.std.specs.Prelude.{◌≡◌, ◌≢◌, ◌<◌, ℕ, Bool, false, List, IsSome, Ok, Some, length, slice_get, slice_set}
 use Rattle.std.specs.List.{remove}
 use Rattle.mesh_page_heap.specs.Effects.{HasEffect}
@@ -18,25 +18,25 @@ abbrev pub busy_by : Busy → Table → ℕ → Bool
 busy_by OfClass = mesh_of_class
 busy_by Any = any_mesh
 
--- a mesh of the two groups may begin, and they are of this class
+-- a mesh of the two groups may begin, and the source is of this class
 pub record IsPair (busy : Busy) (g : PageHeap) (source destination class : ℕ) : Type 0 where
   pub pair : Pair
   pub may : may_begin (busy_by busy) (table_in g) source destination ≡ Ok pair
   pub class_is : pair.source.class ≡ class
 
--- a mesh began: its groups are closed, `left` steps are to come, and memory is unchanged
+-- a mesh of the two groups was added to the table: `left` steps remain, and memory is unchanged
 pub record IsBegun (busy : Busy) (old new : PageHeap) (source destination left : ℕ) : Type 0 where
   pub table : begin (busy_by busy) (table_in old) source destination ≡ Ok (record { count = left; table = table_in new })
   pub arena : new.arena ≡ old.arena
   pub map : new.map ≡ old.map
 
--- the mesh runs, at this place of the list
+-- the mesh is at this place of the list, and is the running mesh of its class
 pub record IsRunning (g : PageHeap) (place : ℕ) (mesh : Mesh) : Type 0 where
   pub at : slice_get g.meshes place ≡ Some mesh
   pub found : mesh_in (table_in g) mesh.class ≡ Some mesh
 
--- the next step of the mesh of a class was made: the table's, with its effect and no other, and each byte of an object
--- is as it was
+-- the next step of the mesh of a class was made, with the table and the effect that are defined, and no other effect.
+-- Each byte of a live object is unchanged
 pub record IsStepped (old new : PageHeap) (class : ℕ) (done : StepDone) : Type 0 where
   pub table : step (table_in old) (mesh_in (table_in old) class) ≡ Ok (record { kind = done.kind; left = done.left; table = table_in new })
   pub kept : Keeps (layout_of old.index) old.arena new.arena old.map new.map
@@ -44,7 +44,7 @@ pub record IsStepped (old new : PageHeap) (class : ℕ) (done : StepDone) : Type
   pub running : mesh_in (table_in old) class ≡ Some mesh
   pub effect : HasEffect old.index mesh old.arena new.arena old.map new.map
 
--- the mesh of a class was cancelled: `left` unprotects are to come, and memory is unchanged
+-- the mesh of a class was cancelled: `left` unprotects remain, and memory is unchanged
 pub record IsCancelled (old new : PageHeap) (class left : ℕ) : Type 0 where
   pub table : cancel (table_in old) (mesh_in (table_in old) class) ≡ Ok (record { count = left; table = table_in new })
   pub arena : new.arena ≡ old.arena
@@ -68,8 +68,8 @@ pub record CanWindBack (index : Index) (list : List Mesh) (place : ℕ) (mesh : 
   pub source : IsSome (group_at index.groups mesh.source)
   pub destination : IsSome (group_at index.groups mesh.destination)
 
--- a cancelled mesh with so many of its protected pages writable again: with all of them it is out of the list, and its
--- two groups are open
+-- `unprotected` of the `protected` pages of a cancelled mesh are writable again. If these are all, the mesh is removed
+-- from the list, and its two groups are open. Otherwise only the mesh's progress changes
 pub record IsWoundBack (old new : Index) (list left : List Mesh) (place : ℕ) (mesh : Mesh) (protected unprotected : ℕ) : Type 0 where
   pub over : unprotected ≡ protected → OpensBoth old new mesh.source mesh.destination × (left ≡ remove list place)
   pub more : unprotected ≢ protected → (new ≡ old) × (left ≡ slice_set list place (record mesh { progress = Unwinding protected unprotected }))

@@ -34,38 +34,38 @@ page_heap_code =
     (λ p. record { arena = p.0; map = p.1.0; index = p.1.1.0; next_page = p.1.1.1.0; meshes = p.1.1.1.1 })
     (λ _. refl)
 
--- its table
+-- the table of a page heap
 abbrev pub table_in : PageHeap → Table
 table_in g = table_with g.arena g.index g.next_page g.meshes
 
--- the lowest open group of the class
+-- the lowest open group of the class, if there is one
 abbrev pub open_group : Table → ℕ → Option Group
 open_group t class = find (is_open t class) t.groups
 
--- the reported counts, as the definition of a report has them
+-- the counts of a returned report, as the definition's report
 abbrev pub counts_told : Report → PlainReport
 counts_told r = record { objects = r.objects; bytes = r.bytes; mapped = r.mapped; taken = r.taken; saved = r.saved }
 
--- an object is in the slot, from this address on
+-- an object is in slot `k` of the span, and the slot begins at this address
 pub record IsStanding (index : Index) (span k serial len address : ℕ) : Type 0 where
   pub recorded : IsRecorded index span k serial len
   pub sound : IsSpan (span_at index.spans span)
   pub address_is : address_in (span_at index.spans span) k ≡ address
 
--- an address is at this offset in the slot of an object
+-- the address is at this offset from the start of an object's slot
 pub record IsInSlotOf (index : Index) (addr span k offset serial len : ℕ) : Type 0 where
   pub address : ℕ
   pub at : address + offset ≡ addr
   pub standing : IsStanding index span k serial len address
 
--- the group of a span, and its first virtual page
+-- the group of a span, and the span's first virtual page
 abbrev pub group_number : Index → ℕ → ℕ
 group_number index span = (span_at index.spans span).group
 
 abbrev pub first_page : Index → ℕ → ℕ
 first_page index span = (span_at index.spans span).first
 
--- the slot is a vacant one of the first member of a group that is in no mesh
+-- the slot is vacant, and in the first member of a group that is in no mesh
 pub record IsFreeSlot (index : Index) (class span k : ℕ) : Type 0 where
   pub vacant : IsVacant index class span k
   pub first : first_page index span ≡ (layout_of index).first (group_number index span) 0
@@ -76,16 +76,16 @@ abbrev pub table_with_object : PageHeap → ℕ → ℕ → ℕ → ℕ → Tabl
 table_with_object g span k serial len =
     with_group (table_in g) (group_number g.index span) (with_object_in k (record { member = first_page g.index span; serial = serial; len = len }))
 
--- the table with nothing in a slot of a span
+-- the table with a slot of a span emptied
 abbrev pub table_emptied : PageHeap → ℕ → ℕ → Table
 table_emptied g span k = with_group (table_in g) (group_number g.index span) (emptied_at k)
 
--- objects stay at their addresses, and each of their bytes is unchanged
+-- every live object has its address as before, and each of its bytes is unchanged
 pub record KeepsObjects (old new : PageHeap) : Type 0 where
   pub stay : (n k o x : ℕ) (slot : Slot) → IsLiveAt (layout_of old.index) n k o x slot → IsLiveAt (layout_of new.index) n k o x slot
   pub bytes : Keeps (layout_of old.index) old.arena new.arena old.map new.map
 
--- each byte of an object that is outside of a range is as it was
+-- each byte of a live object outside of the range is unchanged
 abbrev pub KeepsOutside : PageHeap → PageHeap → ℕ → ℕ → Type 0
 KeepsOutside old new addr len = (n k o x : ℕ) (slot : Slot) → IsLiveAt (layout_of old.index) n k o x slot → (x < addr) ⊎ (addr + len ≤ x)
     → byte_at new.arena (page_of new.map (x / 4096)) (x % 4096) ≡ byte_at old.arena (page_of old.map (x / 4096)) (x % 4096)
@@ -99,7 +99,8 @@ pub record IsPlace (old new : PageHeap) (class word span k : ℕ) : Type 0 where
   pub free : IsFreeSlot new.index class span k
   pub kept : KeepsObjects old new
 
--- what a fresh span adds
+-- a fresh span of the class was added, as the table adds one: all its slots are free, and the live objects are
+-- unchanged
 pub record IsFreshSpan (old new : PageHeap) (class span : ℕ) : Type 0 where
   pub number : span ≡ length old.index.spans
   pub table : table_in new ≡ with_span (table_in old) class
@@ -109,17 +110,17 @@ pub record IsFreshSpan (old new : PageHeap) (class span : ℕ) : Type 0 where
   pub free : (k : ℕ) → k < slots_of class → IsFreeSlot new.index class span k
   pub kept : KeepsObjects old new
 
--- what room there is for a span where none was added: none, or room for which memory was refused
+-- whether there was room for a span that was not added: no, by the table's refusal, or yes, but memory was refused
 abbrev pub room_at : NewFault → Result (Unit {0}) Refusal
 room_at (Refused refusal) = Err refusal
 room_at Memory = Ok tt
 
--- why no span was added: there is no room for it, or memory was refused; nothing changed
+-- no span was added, and nothing changed: either there is no room for a span, or memory was refused
 pub record IsSpanFault (old new : PageHeap) (class : ℕ) (fault : NewFault) : Type 0 where
   pub room : room_for_span (table_in old) class ≡ room_at fault
   pub same : new ≡ old
 
--- why no slot was found: a new span is needed, and it can't be had; nothing changed
+-- no slot was found, and nothing changed: no group of the class is open, and no span could be added
 pub record IsPlaceFault (old new : PageHeap) (class : ℕ) (fault : NewFault) : Type 0 where
   pub none_open : open_group (table_in old) class ≡ None
   pub room : room_for_span (table_in old) class ≡ room_at fault

@@ -12,8 +12,8 @@ use Rattle.mesh_page_heap.specs.Indexes.{layout_of, table_with}
 use Rattle.mesh_page_heap.specs.Layout.{IsLaidOut}
 use Rattle.mesh_page_heap.specs.MeshLayouts.{stage_of}
 
--- no virtual page from the next one on is mapped or in a span, the groups lie as the running meshes have them, these
--- close their groups, and the table is sound
+-- no virtual page from `next_page` on is mapped or in a span. Layout, page map and arena agree with the running meshes,
+-- exactly the groups of running meshes are closed, and the table is sound
 pub record IsPageHeap (arena : Pages) (map : Entries) (index : Index) (next_page : ℕ) (meshes : List Mesh) : Type 0 where
   pub some : 1 ≤ next_page
   pub most : next_page ≤ 65536
@@ -23,10 +23,10 @@ pub record IsPageHeap (arena : Pages) (map : Entries) (index : Index) (next_page
   pub flags : (n : ℕ) → is_closed index n ≡ list_any (takes_part n) meshes
   pub sound : IsSound (table_with arena index next_page meshes)
 
--- where a page map leads
+-- the target of each virtual page in a page map: its physical page, and whether it is read-only
 abbrev pub targets_of : Entries → ℕ → Target
 targets_of m v = record { page = page_of m v; read_only = is_read_only m v }
 
--- the bytes of an arena by their places
+-- the byte of an arena at each place
 abbrev pub bytes_in : Pages → Place → ℕ
 bytes_in a place = byte_at a place.page place.offset

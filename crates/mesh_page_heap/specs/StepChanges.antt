@@ -9,12 +9,12 @@ use Rattle.model_words.specs.declared.commands.StepKind.TheVariants.{Copy, Prote
 use Rattle.mesh_pagemap.specs.Entries.{Entries, IsMapped, Protects, Remaps, is_mapped, is_read_only, page_of, prot_of}
 use Rattle.mesh_page_heap.specs.Layout.{IsLiveAt, IsPageOf, Layout, Stage, byte_in, virtual_page}
 
--- the mesh from a group has come to this stage, and every other is as it was
+-- the mesh from group `n` is now at stage `c`, and every other stage is unchanged
 pub record Moves (f f' : ℕ → Stage) (n : ℕ) (c : Stage) : Type 0 where
   pub here : f' n ≡ c
   pub others : (m : ℕ) → m ≢ n → f' m ≡ f m
 
--- so many bytes from an offset on are copied from one group's pages to another's, and no other byte changes
+-- `len` bytes from offset `from` on are copied from the source's pages to the destination's, and no other byte changes
 pub record Copies (l : Layout) (old new : Pages) (source destination from len : ℕ) : Type 0 where
   pub inside : (x : ℕ) → from ≤ x → x < from + len → byte_in l new destination x ≡ byte_in l old source x
   pub outside : (p o : ℕ) → ((x : ℕ) → from ≤ x → x < from + len → l.page destination (x / 4096) ≡ p → x % 4096 ≡ o → ⊥)
@@ -28,7 +28,7 @@ CopiesSlot l old new source destination k None = new ≡ old
 CopiesSlot l old new source destination k (Some slot) =
     Copies l old new source destination (k * l.class source) slot.len × (free_count new ≡ free_count old)
 
--- what the step of a kind that is number `i` of its kind makes of arena and page map
+-- what step number `i` of a kind changes in arena and page map
 abbrev pub Makes : Layout → StepKind → ℕ → ℕ → ℕ → Pages → Pages → Entries → Entries → Type 0
 Makes l Protect source destination i arena arena' m m' = (arena' ≡ arena) × Protects m m' (virtual_page l source i) (prot_of true)
 Makes l Copy source destination k arena arena' m m' = (m' ≡ m) × CopiesSlot l arena arena' source destination k (l.slot source k)
@@ -37,7 +37,8 @@ Makes l Remap source destination i arena arena' m m' =
 Makes l Unprotect source destination i arena arena' m m' = (arena' ≡ arena) × Protects m m' (virtual_page l source i) (prot_of false)
 Makes l Release source destination j arena arena' m m' = (m' ≡ m) × Gives arena arena' (l.page source j)
 
--- the step after `made` ones is number `i` of the kind, in a mesh of so many virtual pages, slots and physical pages
+-- after `made` steps, the next one is number `i` of its kind, in a mesh of `total` virtual pages, `slots` slots and
+-- `pages` physical pages
 abbrev pub IsStepAt : ℕ → ℕ → ℕ → ℕ → StepKind → ℕ → Type 0
 IsStepAt total slots pages made Protect i = (made ≡ i) × (i < total)
 IsStepAt total slots pages made Copy k = (made ≡ total + k) × (k < slots)
@@ -45,13 +46,14 @@ IsStepAt total slots pages made Remap i = (made ≡ total + slots + i) × (i < t
 IsStepAt total slots pages made Unprotect i = (made ≡ 2 * total + slots + i) × (i < total)
 IsStepAt total slots pages made Release j = (made ≡ 3 * total + slots + j) × (j < pages)
 
--- each byte of a live object is as it was, and there are as many physical pages
+-- each byte of a live object is unchanged, and the number of physical pages is unchanged
 pub record Keeps (l : Layout) (arena arena' : Pages) (m m' : Entries) : Type 0 where
   pub each : (n k o x : ℕ) (slot : Slot) → IsLiveAt l n k o x slot
       → byte_at arena' (page_of m' (x / 4096)) (x % 4096) ≡ byte_at arena (page_of m (x / 4096)) (x % 4096)
   pub same_length : length arena' ≡ length arena
 
--- the source's members follow the destination's, with the objects of both, and the source is no group any more
+-- the source's members follow the destination's, the destination has the objects of both, and the source is no group
+-- any more. Other groups are unchanged
 pub record Merges (l l' : Layout) (s d : ℕ) : Type 0 where
   pub class : (n : ℕ) → n ≢ s → l'.class n ≡ l.class n
   pub members : (n : ℕ) → n ≢ s → n ≢ d → l'.members n ≡ l.members n
@@ -65,7 +67,8 @@ pub record Merges (l l' : Layout) (s d : ℕ) : Type 0 where
   pub no_slot : (k : ℕ) → l'.slot s k ≡ None
   pub united : (k : ℕ) → l'.slot d k ≡ either_slot (l.slot d k) (l.slot s k)
 
--- a group of one span of the class, with no object, at the virtual page, over these physical pages
+-- group `g` is new: it has one span of the class at virtual page `next`, no object, and these physical pages. Other
+-- groups are unchanged
 pub record Grows (l l' : Layout) (g size next : ℕ) (pages : List ℕ) : Type 0 where
   pub none : l.members g ≡ 0
   pub class_is : l'.class g ≡ size
@@ -79,7 +82,7 @@ pub record Grows (l l' : Layout) (g size next : ℕ) (pages : List ℕ) : Type 0
   pub page : (n j : ℕ) → n ≢ g → l'.page n j ≡ l.page n j
   pub slot : (n k : ℕ) → n ≢ g → l'.slot n k ≡ l.slot n k
 
--- the number is no group any more
+-- group `g` is no group any more, and other groups are unchanged
 pub record Drops (l l' : Layout) (g : ℕ) : Type 0 where
   pub gone : l'.members g ≡ 0
   pub no_slot : (k : ℕ) → l'.slot g k ≡ None
@@ -89,7 +92,7 @@ pub record Drops (l l' : Layout) (g : ℕ) : Type 0 where
   pub page : (n j : ℕ) → n ≢ g → l'.page n j ≡ l.page n j
   pub slot : (n k : ℕ) → n ≢ g → l'.slot n k ≡ l.slot n k
 
--- no page of the group is mapped any more, and every other entry is as it was
+-- no page of the group is mapped any more, and every other entry is unchanged
 pub record UnmapsGroup (l : Layout) (m m' : Entries) (g : ℕ) : Type 0 where
   pub gone : (i v : ℕ) → IsPageOf l g i v → is_mapped m' v ≡ false
   pub none : (v : ℕ) → IsMapped m' v → IsMapped m v
@@ -97,7 +100,7 @@ pub record UnmapsGroup (l : Layout) (m m' : Entries) (g : ℕ) : Type 0 where
   pub pages : (v : ℕ) → ((i : ℕ) → IsPageOf l g i v → ⊥) → page_of m' v ≡ page_of m v
   pub locks : (v : ℕ) → ((i : ℕ) → IsPageOf l g i v → ⊥) → is_read_only m' v ≡ is_read_only m v
 
--- every page but the group's physical pages is as it was
+-- every physical page that isn't one of the group's is unchanged
 pub record GivesGroup (l : Layout) (arena arena' : Pages) (g : ℕ) : Type 0 where
   pub kept : (p : ℕ) → ((j : ℕ) → j < pages_of (l.class g) → l.page g j ≢ p) → is_taken arena' p ≡ is_taken arena p
   pub bytes : (p o : ℕ) → ((j : ℕ) → j < pages_of (l.class g) → l.page g j ≢ p) → byte_at arena' p o ≡ byte_at arena p o

@@ -1,4 +1,4 @@
--- What a step of a mesh needs to be made.
+-- The conditions under which a step of a mesh can be made.
 use Rattle.std.specs.Prelude.{◌≡◌, ◌≢◌, ℕ, ◌<◌}
 use Rattle.mesh_arena.specs.Pages.{IsTaken, Pages}
 use Rattle.mesh_class.specs.Classes.{IsClass, pages_of, slots_of}
@@ -7,7 +7,8 @@ use Rattle.model_words.specs.declared.commands.StepKind.TheVariants.{Copy, Prote
 use Rattle.mesh_pagemap.specs.Entries.{Entries, IsMapped}
 use Rattle.mesh_page_heap.specs.Layout.{Layout, page_total, virtual_page}
 
--- two groups of a class have their physical pages, all different
+-- two groups of one class have their physical pages, and these are taken. The destination's pages are all different,
+-- and none of them is a page of the source
 pub record HaveBothPages (l : Layout) (arena : Pages) (source destination : ℕ) : Type 0 where
   pub source_is : 0 < l.members source
   pub destination_is : 0 < l.members destination
@@ -23,12 +24,12 @@ pub record CanCopy (l : Layout) (arena : Pages) (source destination k : ℕ) : T
   pub class : IsClass (l.class source)
   pub below : k < slots_of (l.class source)
 
--- a virtual page of the source can be changed
+-- the source has a virtual page `i`, and it is mapped
 pub record HasPage (l : Layout) (m : Entries) (source i : ℕ) : Type 0 where
   pub within : i < page_total l source
   pub mapped : IsMapped m (virtual_page l source i)
 
--- a step of a kind can be made
+-- step number `i` of a kind can be made
 abbrev pub IsReady : Layout → StepKind → ℕ → ℕ → ℕ → Pages → Entries → Type 0
 IsReady l Protect source destination i arena m = HasPage l m source i
 IsReady l Copy source destination k arena m = CanCopy l arena source destination k

@@ -7,14 +7,14 @@ use Rattle.model_heap.specs.Table.{sweep}
 use Rattle.mesh_pagemap.specs.Entries.{Entries, IsMapped, is_mapped}
 use Rattle.mesh_page_heap.specs.PageHeap.{PageHeap, table_in}
 
--- the group's virtual pages are mapped, and no two of them are one
+-- the group's virtual pages are mapped and all different
 pub record CanUnmap (l : Layout) (m : Entries) (n : ℕ) : Type 0 where
   pub group : 0 < l.members n
   pub mapped : (i v : ℕ) → IsPageOf l n i v → IsMapped m v
   pub once : (i j v : ℕ) → IsPageOf l n i v → IsPageOf l n j v → i ≡ j
 
--- an empty group was taken out, so many pages came free, its virtual pages are unmapped, and each byte of an object is
--- as it was
+-- an empty group was removed from the table, and `count` physical pages were freed. Its virtual pages are unmapped, and
+-- each byte of a live object is unchanged
 pub record HasGone (old new : PageHeap) (n count : ℕ) : Type 0 where
   pub table : sweep (table_in old) n ≡ Ok (record { count = count; table = table_in new })
   pub kept : Keeps (layout_of old.index) old.arena new.arena old.map new.map

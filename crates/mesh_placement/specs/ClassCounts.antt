@@ -16,28 +16,29 @@ class_pages t class = sum_by (λ g. pages_of g.class) (groups_in t class)
 abbrev pub class_objects : Table → ℕ → ℕ
 class_objects t class = sum_by object_count (groups_in t class)
 
--- the physical pages of a group of the index
+-- the number of physical pages of a group of the index
 abbrev pub entry_pages : GroupEntry → ℕ
 entry_pages group = pages_of group.class
 
--- its objects
+-- the number of objects of a group of the index
 abbrev pub entry_objects : GroupEntry → ℕ
 entry_objects group = count_by is_some group.slots
 
--- what a group of the index counts for a class: nothing where it is of another one
+-- the count of a group of the index, or 0 if there is no group or it has another class
 abbrev pub counted_for : (GroupEntry → ℕ) → ℕ → Option GroupEntry → ℕ
 counted_for count class None = 0
 counted_for count class (Some group) = if nat_eq group.class class then count group else 0
 
--- what the groups of the index count for a class
+-- the sum of the counts of the index's groups of a class
 abbrev pub class_count : (GroupEntry → ℕ) → List (Option GroupEntry) → ℕ → ℕ
 class_count count groups class = sum_by (counted_for count class) groups
 
--- what they count for each class, in the order of the class table
+-- for each class, in the order of the class table, the sum of the counts of its groups
 unfoldable pub count_by_class : (GroupEntry → ℕ) → List (Option GroupEntry) → List ℕ
 count_by_class count groups = map (λ row. class_count count groups row.size) table
 
--- two lists of counts are the pages and the objects of the groups of each class
+-- the two lists are the numbers of physical pages and of objects of the groups of each class, in the order of the class
+-- table
 pub record AreClassCounts (groups : List (Option GroupEntry)) (page_counts object_counts : List ℕ) : Type 0 where
   pub pages : page_counts ≡ count_by_class entry_pages groups
   pub objects : object_counts ≡ count_by_class entry_objects groups

@@ -5,7 +5,8 @@ use Rattle.model_heap.specs.Table.{fresh_group}
 use Rattle.mesh_spans.specs.Groups.{groups_of}
 use Rattle.mesh_spans.specs.Index.{Index, IsVacant, new_group, new_span}
 
--- a span of the class from a virtual page on was added, with a group of its own and some physical pages
+-- a span of the class was added, from virtual page `first` on. Its new group has the physical pages of one span and no
+-- object
 pub record IsAdded (old new : Index) (class first span : ℕ) : Type 0 where
   pub pages : List ℕ
   pub count : length pages ≡ pages_of class

@@ -5,7 +5,8 @@ use Rattle.model_heap.specs.Table.{len_in}
 use Rattle.mesh_spans.specs.Index.{GroupEntry, Index}
 use Rattle.mesh_spans.specs.Pairs.{MayMerge}
 
--- two groups of a class may be meshed: so many pages would come free, and the source's objects have so many bytes
+-- two groups of the class may be meshed: `pages` physical pages would become free, and the source's objects have
+-- `bytes` bytes
 pub record MayMesh (index : Index) (source destination class pages bytes : ℕ) : Type 0 where
   pub from : GroupEntry
   pub merge : MayMerge index source destination false from

@@ -1,4 +1,4 @@
--- A placement: where the objects of a heap are, the table that it is, and what its calls do to it.
+-- A placement: where the objects of a heap are, its table, and how its calls change it.
 use Rattle.std.specs.Prelude.{◌≡◌, ℕ, ◌+◌, ◌-◌, ◌<◌, ◌≤◌, false, List, [], Some, None, Ok, Err, find, length, refl}
 use Rattle.std.specs.Coded.{Coded, code_by, coded×, coded_ℕ}
 use Rattle.std.specs.Option.{option_map}
@@ -16,8 +16,8 @@ use Rattle.mesh_spans.specs.Index.{AreUnused, Index, SpanEntry, address_in, inde
 use Rattle.mesh_placement.specs.Records.{KeepsAddresses, KeepsOthers, KeepsRecords}
 use Rattle.mesh_placement.specs.Sweeps.{swept, table_after}
 
--- a placement: its index, the lowest virtual page that was never used, the physical pages of all groups, and the serial
--- of the next object
+-- a placement: its index, the lowest virtual page that was never used, the number of physical pages of all groups, and
+-- the serial of the next object
 pub record Placement : Type 0 where
   pub index : Index
   pub next_page : ℕ
@@ -32,11 +32,11 @@ placement_code =
     (λ q. record { index = q.0; next_page = q.1.0; taken_pages = q.1.1.0; next_serial = q.1.1.1 })
     (λ _. refl)
 
--- how many physical pages there are: so many more than virtual ones that a new span never wants for one
+-- the number of physical pages: more than there are virtual ones, so that a new span never lacks a physical page
 abbrev pub supply : ℕ
 supply = 65538
 
--- its table, over this supply and with no running mesh
+-- the table of the placement, with `supply` physical pages and no running mesh
 abbrev pub table_of : Placement → Table
 table_of p = record {
   next_span = length p.index.spans;
@@ -46,18 +46,18 @@ table_of p = record {
   groups = groups_of p.index;
 }
 
--- the first virtual pages of spans ascend
+-- if a span has a higher number than another, its first virtual page is higher too
 abbrev pub FirstsAscend : List SpanEntry → Type 0
 FirstsAscend spans = (i j : ℕ) → i < j → j < length spans → (span_at spans i).first < (span_at spans j).first
 
--- the table has the live objects of a plain memory with so many serials
+-- some reference memory with this next serial is tied to the table, so it has the table's live objects
 pub record HasMemory (serials : ℕ) (t : Table) : Type 0 where
   pub memory : Memory
   pub next_is : next_serial memory ≡ serials
   pub tied : IsTied memory t
 
--- what always holds: the table is sound and has a memory's objects, its pages are counted, its spans ascend, and no
--- group is in a mesh
+-- what always holds of a placement: its table is sound and tied to a reference memory, its physical pages are counted,
+-- and fewer than `next_page` are taken. Its spans ascend and end below `next_page`, and no group is in a mesh
 pub record IsPlacement (p : Placement) : Type 0 where
   pub sound : IsSound (table_of p)
   pub named : HasMemory p.next_serial (table_of p)
@@ -67,7 +67,8 @@ pub record IsPlacement (p : Placement) : Type 0 where
   pub ascending : FirstsAscend p.index.spans
   pub calm : (n : ℕ) → is_closed p.index n ≡ false
 
--- an object was made in a slot that had none: it is where the table places it
+-- an object was placed in slot `k` of the span, which had none: it is where `place_new` places it. No other slot's
+-- record and no address changed
 pub record IsMade (old new : Placement) (len word span k : ℕ) : Type 0 where
   pub placed : place_new (table_of old) len word old.next_serial ≡ Ok (record { address = address_in (span_at new.index.spans span) k; table = table_of new })
   pub serial : new.next_serial ≡ old.next_serial + 1
@@ -76,24 +77,25 @@ pub record IsMade (old new : Placement) (len word span k : ℕ) : Type 0 where
   pub others : KeepsOthers old.index new.index span k
   pub addresses : KeepsAddresses old.index new.index
 
--- a new object of `len` bytes goes to a new span of the class
+-- a new object of `len` bytes, which is at least 1, needs a new span of this class: the class has no open group
 pub record GoesToSpan (t : Table) (len class : ℕ) : Type 0 where
   pub class_is : class_for len ≡ Some class
   pub some : 1 ≤ len
   pub none_open : find (is_open t class) t.groups ≡ None
 
--- it does, and there is room for the span
+-- a new object of `len` bytes needs a new span, and there is room for this span
 pub record NeedsSpan (t : Table) (len : ℕ) : Type 0 where
   pub class : ℕ
   pub goes : GoesToSpan t len class
   pub room : room_for_span t class ≡ Ok tt
 
--- why no object was made, and nothing changed: the table refuses it, or memory for a new span was refused
+-- no object was made and nothing changed: the table refuses the object, or an allocation failed when a new span was
+-- needed
 abbrev pub IsNotMade : Placement → Placement → ℕ → ℕ → NewFault → Type 0
 IsNotMade old new len word (Refused refusal) = (place_new (table_of old) len word old.next_serial ≡ Err refusal) × (new ≡ old)
 IsNotMade old new len word NoMemory = NeedsSpan (table_of old) len × (new ≡ old)
 
--- an object was taken out of its slot
+-- the object in slot `k` of the span, if there was one, was removed. No other slot's record and no address changed
 pub record IsFreed (old new : Placement) (span k : ℕ) : Type 0 where
   pub table : (serial len : ℕ) → record_at old.index span k ≡ Some (serial, len) → table_of new ≡ without_object (table_of old) serial
   pub serial : new.next_serial ≡ old.next_serial
@@ -101,7 +103,7 @@ pub record IsFreed (old new : Placement) (span k : ℕ) : Type 0 where
   pub others : KeepsOthers old.index new.index span k
   pub addresses : KeepsAddresses old.index new.index
 
--- a group was swept, or stayed where it may not be
+-- group `n` was swept, or nothing changed if its sweep is refused. No record changed
 pub record IsSweptAt (old new : Placement) (n : ℕ) : Type 0 where
   pub table : table_of new ≡ table_after (table_of old) (sweep (table_of old) n)
   pub serial : new.next_serial ≡ old.next_serial
@@ -109,14 +111,15 @@ pub record IsSweptAt (old new : Placement) (n : ℕ) : Type 0 where
   pub spans : new.index.spans ≡ old.index.spans
   pub records : KeepsRecords old.index new.index
 
--- each empty group was taken out
+-- each empty group was removed. No record and no address changed
 pub record IsSwept (old new : Placement) : Type 0 where
   pub table : table_of new ≡ swept (table_of old)
   pub serial : new.next_serial ≡ old.next_serial
   pub records : KeepsRecords old.index new.index
   pub addresses : KeepsAddresses old.index new.index
 
--- two groups were meshed: so many physical pages came free, and the source's objects have so many bytes
+-- two groups were meshed: `pages` physical pages became free, and the source's objects have `bytes` bytes. No record
+-- and no address changed
 pub record IsMeshed (old new : Placement) (source destination pages bytes : ℕ) : Type 0 where
   pub table : mesh_whole mesh_of_class (table_of old) source destination ≡ Ok (record { count = pages; table = table_of new })
   pub moved : option_map byte_count (group_of (table_of old) source) ≡ Some bytes

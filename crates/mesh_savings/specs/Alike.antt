@@ -12,43 +12,43 @@ use Rattle.mesh_savings.specs.declared.settings.Settings.{Settings}
 abbrev pub Test : Type 0
 Test = ℕ → ℕ → ℕ → Bool
 
--- an object is in the slot of a group of the class, and passes the test
+-- whether the slot of a group of the class has an object, and the object passes the test
 abbrev pub passes : Test → ℕ → Option Slot → Bool
 passes test class None = false
 passes test class (Some slot) = test class slot.serial slot.len
 
--- how many objects of the group pass
+-- the number of the group's objects that pass the test
 abbrev pub count_in : Test → Group → ℕ
 count_in test group = count_by (passes test group.class) group.slots
 
--- how many objects of the table pass
+-- the number of the table's objects that pass the test
 abbrev pub objects_where : Test → Table → ℕ
 objects_where test t = sum_by (count_in test) t.groups
 
--- whatever the test of class, serial and length, as many objects of one table pass it as of the other
+-- each test of class, serial and length is passed by equally many objects of both tables
 abbrev pub AreAlike : Table → Table → Type 0
 AreAlike t u = (test : Test) → objects_where test t ≡ objects_where test u
 
--- after any calls, both heaps have the same objects
+-- if calls can be made, both heaps have the same objects after them
 abbrev pub HeapsAreAlike : Type 0
 HeapsAreAlike = (settings : Settings) (calls : List Call) (f : Followed) → run settings (start settings) calls ≡ Goes f
     → AreAlike f.heaps.without f.heaps.meshing.table
 
--- and as many of each class
+-- if calls can be made, both heaps have equally many objects of each class after them
 abbrev pub ClassesAreAlike : Type 0
 ClassesAreAlike = (settings : Settings) (calls : List Call) (f : Followed) (class : ℕ) → run settings (start settings) calls ≡ Goes f
     → class_objects f.heaps.without class ≡ class_objects f.heaps.meshing.table class
 
--- both are sound
+-- both heaps are sound
 pub record AreSound (h : Heaps) : Type 0 where
   pub without : IsSound h.without
   pub with : IsSound h.meshing.table
 
--- so they are after any calls
+-- if calls can be made, both heaps are sound after them
 abbrev pub HeapsAreSound : Type 0
 HeapsAreSound = (settings : Settings) (calls : List Call) (f : Followed) → run settings (start settings) calls ≡ Goes f → AreSound f.heaps
 
--- calls one after another lead where their two parts lead
+-- the outcome of two lists of calls, one after the other, is that of the joined list
 abbrev pub RunsGoOn : Type 0
 RunsGoOn = (settings : Settings) (outcome : Outcome) (calls more : List Call)
     → run_on settings outcome (calls ++ more) ≡ run_on settings (run_on settings outcome calls) more

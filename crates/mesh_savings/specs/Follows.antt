@@ -14,18 +14,18 @@ use Rattle.mesh_savings.specs.declared.taken.Taken.{Taken}
 use Rattle.mesh_savings.specs.declared.taken.Taken.TheVariants.{Made, NoAddresses, NoObject}
 use Rattle.mesh_savings.specs.declared.settings.Settings.{Settings}
 
--- what the code keeps of an object is that of the live object
+-- what the code stores of an object is right for the live object: the places of a small one, the length of a large one
 abbrev pub IsKept : TwoHeaps → Option Object → Option Live → Type 0
 IsKept h None None = Unit {0}
 IsKept h (Some (Small places)) (Some (LiveSmall serial len)) = IsAt h places serial len
 IsKept h (Some (Large len)) (Some (LiveLarge size)) = len ≡ size
 IsKept h _ _ = ⊥
 
--- the live objects have different serials
+-- no two small live objects have the same serial
 abbrev pub AreApart : (ℕ → Option Live) → Type 0
 AreApart live = (m n serial len size : ℕ) → live m ≡ Some (LiveSmall serial len) → live n ≡ Some (LiveSmall serial size) → m ≡ n
 
--- what the code keeps, as contracts see it
+-- what the code stores, as contracts see it
 pub record Kept : Type 0 where
   pub settings : Settings
   pub cells : List (ℕ × ℕ)
@@ -34,7 +34,7 @@ pub record Kept : Type 0 where
   pub new_words : List ℕ
   pub heaps : TwoHeaps
 
--- what is kept of these parts
+-- what the code stores, from its parts
 abbrev pub kept_of : Settings → Objects → Counts → List ℕ → TwoHeaps → Kept
 kept_of settings objects counts new_words heaps = record {
   settings = settings;
@@ -45,7 +45,7 @@ kept_of settings objects counts new_words heaps = record {
   heaps = heaps;
 }
 
--- the code represents the state
+-- the code's state represents the state `f`
 pub record Follows (code : Kept) (f : Followed) : Type 0 where
   pub cells : (cell : ℕ) → lookup (nat_eq cell) code.cells ≡ f.cells cell
   pub objects : (number : ℕ) → IsKept code.heaps (lookup (nat_eq number) code.objects) (f.live number)
@@ -57,7 +57,8 @@ pub record Follows (code : Kept) (f : Followed) : Type 0 where
   pub apart : AreApart f.live
   pub below : (number serial len : ℕ) → f.live number ≡ Some (LiveSmall serial len) → serial < f.counts.small
 
--- the counts of the meshes are within so many rounds: a round has at most 32,768 pairs of each of 10 classes
+-- the counts of meshes are possible after `rounds` rounds: a round has at most 32,768 pairs in each of 10 classes, and
+-- a mesh moves at most 12,288 bytes
 pub record AreOfRounds (counts : MeshCounts) (rounds : ℕ) : Type 0 where
   pub counted : counts.meshes + counts.refused ≤ 327680 * rounds
   pub moved : counts.moved ≤ 4026531840 * rounds
@@ -67,12 +68,13 @@ pub record IsCounted (code : Kept) : Type 0 where
   pub few : IsFew code.counts
   pub meshes : AreOfRounds code.heaps.mesher.counts code.counts.rounds
 
--- there is a number left for one more call and one more object
+-- there are numbers left for one more call and one more object
 pub record HasNumbers (code : Kept) : Type 0 where
   pub calls : code.counts.calls < 2 ^ 32 - 1
   pub heaps : HaveSerial code.heaps
 
--- the code represents the state after the call; if the call can't be made, the state before it
+-- the code reports the outcome of the call, and represents the state after it, or the state before it if the call can't
+-- be made
 abbrev pub IsTaken : Kept → Followed → Outcome → Taken → Type 0
 IsTaken new f (Goes next) Made = Follows new next
 IsTaken new f HasNoObject NoObject = Follows new f

@@ -1,4 +1,4 @@
--- Both heaps as the code has them, and what its calls do to them.
+-- Both heaps of the code, and how the code's calls change them.
 use Rattle.std.specs.Prelude.{◌≡◌, ◌≢◌, ℕ, ◌+◌, ◌-◌, ◌^◌, ◌<◌, ◌≤◌, ◌⊎◌, ◌&&◌, Bool, Ok, is_ok, Some}
 use Rattle.model_heap.specs.Table.{place_new}
 use Rattle.mesh_placement.specs.Placement.{table_of}
@@ -8,25 +8,25 @@ use Rattle.mesh_savings.specs.Meshing.{Heaps}
 use Rattle.mesh_savings.specs.declared.heaps.TwoHeaps.{TwoHeaps}
 use Rattle.mesh_savings.specs.declared.objects.Places.{Places}
 
--- both heaps of the code as the definitions have them
+-- both heaps of the code, as heaps of the definitions
 abbrev pub heaps_of : TwoHeaps → Heaps
 heaps_of h = record {
   without = table_of h.without;
   meshing = record { table = table_of h.mesher.placement; counts = h.mesher.counts; words = h.mesher.words };
 }
 
--- the object of this serial and this length is at its places in both heaps
+-- the object with this serial and this length is at its places in both heaps
 pub record IsAt (h : TwoHeaps) (places : Places) (serial len : ℕ) : Type 0 where
   pub without : record_at h.without.index places.without.0 places.without.1 ≡ Some (serial, len)
   pub with : record_at h.mesher.placement.index places.with.0 places.with.1 ≡ Some (serial, len)
 
--- no object has another place, and none was made
+-- no object changed its place, and none was made
 pub record AreKept (old new : TwoHeaps) : Type 0 where
   pub without_serial : new.without.next_serial ≡ old.without.next_serial
   pub with_serial : new.mesher.placement.next_serial ≡ old.mesher.placement.next_serial
   pub objects : (places : Places) (serial len : ℕ) → IsAt old places serial len → IsAt new places serial len
 
--- the same of all objects but that of a serial
+-- no object changed its place, except perhaps the one with the serial `freed`, and none was made
 pub record AreKeptBut (old new : TwoHeaps) (freed : ℕ) : Type 0 where
   pub without_serial : new.without.next_serial ≡ old.without.next_serial
   pub with_serial : new.mesher.placement.next_serial ≡ old.mesher.placement.next_serial
@@ -37,7 +37,7 @@ pub record HaveSerial (h : TwoHeaps) : Type 0 where
   pub without : h.without.next_serial < 2 ^ 32 - 1
   pub with : h.mesher.placement.next_serial < 2 ^ 32 - 1
 
--- one of them has none
+-- one of the heaps has no serial left
 abbrev pub HaveNoSerial : TwoHeaps → Type 0
 HaveNoSerial h = (2 ^ 32 - 1 ≤ h.without.next_serial) ⊎ (2 ^ 32 - 1 ≤ h.mesher.placement.next_serial)
 
@@ -46,7 +46,7 @@ abbrev pub has_room : TwoHeaps → ℕ → ℕ → ℕ → Bool
 has_room h len word serial =
     is_ok (place_new (table_of h.without) len word serial) && is_ok (place_new (table_of h.mesher.placement) len word serial)
 
--- an object of this length was made in both heaps, by the same word: it is where the tables place it
+-- an object of this length was made in both heaps, with one word, where `place_new` places it
 pub record IsMadeIn (old new : TwoHeaps) (len word : ℕ) (places : Places) : Type 0 where
   pub without_address : ℕ
   pub without_placed : place_new (table_of old.without) len word old.without.next_serial
@@ -62,7 +62,7 @@ pub record IsMadeIn (old new : TwoHeaps) (len word : ℕ) (places : Places) : Ty
   pub with_recorded : record_at new.mesher.placement.index places.with.0 places.with.1 ≡ Some (old.mesher.placement.next_serial, len)
   pub objects : (other : Places) (serial size : ℕ) → IsAt old other serial size → IsAt new other serial size
 
--- the object of a serial was freed in both heaps
+-- the object with this serial was freed in both heaps, and no other object changed its place
 pub record IsFreedFrom (old new : TwoHeaps) (serial : ℕ) : Type 0 where
   pub heaps : heaps_of new ≡ without_serial (heaps_of old) serial
   pub kept : AreKeptBut old new serial

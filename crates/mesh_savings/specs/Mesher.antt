@@ -1,4 +1,4 @@
--- The heap that meshes, as the code has it.
+-- The meshing heap of the code.
 use Rattle.std.specs.Prelude.{◌≡◌, ℕ, ◌+◌, ◌*◌, ◌<◌, ◌^◌}
 use Rattle.mesh_placement.specs.Placement.{table_of}
 use Rattle.mesh_placement.specs.Records.{KeepsRecords}
@@ -6,16 +6,16 @@ use Rattle.mesh_savings.specs.Meshing.{Meshing}
 use Rattle.mesh_savings.specs.declared.counts.MeshCounts.{MeshCounts}
 use Rattle.mesh_savings.specs.declared.meshing.Mesher.{Mesher}
 
--- the heap as the definitions have it
+-- the meshing heap of the code, as a heap of the definitions
 abbrev pub meshing_of : Mesher → Meshing
 meshing_of m = record { table = table_of m.placement; counts = m.counts; words = m.words }
 
--- so many pairs more can be counted
+-- the counts don't overflow if `pairs` more pairs are counted
 pub record Fits (counts : MeshCounts) (pairs : ℕ) : Type 0 where
   pub counted : counts.meshes + counts.refused + pairs < 2 ^ 64
   pub moved : counts.moved + 12288 * pairs < 2 ^ 64
 
--- no object has another place, and none was made
+-- no object changed its place, and none was made
 pub record IsAsBefore (old new : Mesher) : Type 0 where
   pub serial : new.placement.next_serial ≡ old.placement.next_serial
   pub records : KeepsRecords old.placement.index new.placement.index

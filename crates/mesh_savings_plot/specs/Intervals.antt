@@ -1,4 +1,4 @@
--- The four curves over the calls that are measured, cut into intervals of equally many calls.
+-- The four curves over the measured calls, cut into intervals of equally many calls; only the last may have fewer.
 use Rattle.std.specs.Prelude.{◌≡◌, ℕ, ◌*◌, ◌^◌, ◌<◌, ◌≤◌, min, List, [], ◌∷◌, length, map, take, drop, slice_index_or}
 use Rattle.std.specs.Int.{div_ceil}
 use Rattle.mesh_figures.specs.Samples.{live_pages, measured, peak, total}
@@ -9,16 +9,17 @@ use Rattle.mesh_savings_plot.specs.declared.spans.Span.{Span}
 use Rattle.mesh_savings_plot.specs.declared.spans.Interval.{Interval}
 use Rattle.mesh_savings_plot.specs.declared.intervals.Intervals.{Intervals}
 
--- the pages of the four curves behind a call: all classes together, and the live bytes in whole pages, rounded up
+-- the values of the four curves after a call: the pages of all classes together, and the live bytes in whole pages,
+-- rounded up
 abbrev pub reading : Sample → Reading
 reading sample =
     record { without = total sample.without; with = total sample.with; perfect = total sample.perfect; live = live_pages sample }
 
--- those behind the calls that are measured
+-- the values of the four curves after each measured call
 abbrev pub readings : Window → List Sample → List Reading
 readings window samples = map reading (measured window samples)
 
--- the least of a number and of these numbers
+-- the least of `m` and these numbers
 abbrev pub least_with : ℕ → List ℕ → ℕ
 least_with m [] = m
 least_with m (n ∷ ns) = least_with (min m n) ns
@@ -32,7 +33,7 @@ least (n ∷ ns) = least_with n ns
 abbrev pub span_of : List ℕ → Span
 span_of ns = record { least = least ns; greatest = peak ns }
 
--- the least and the greatest pages of each curve
+-- the least and the greatest value of each curve
 abbrev pub interval_of : List Reading → Interval
 interval_of rs =
     record {
@@ -42,11 +43,11 @@ interval_of rs =
       live = span_of (map (λ (r : Reading). r.live) rs);
     }
 
--- the piece at this place, counted from 0, of what is cut into pieces of this width; the last may be shorter
+-- the piece number `k`, counted from 0, of readings that are cut into pieces of this width; the last may be shorter
 abbrev pub piece : ℕ → ℕ → List Reading → List Reading
 piece width k rs = take width (drop (k * width) rs)
 
--- the least power of two with which this many calls make at most 600 intervals
+-- `width` is the least power of two for which `n` calls make at most 600 intervals
 pub record IsWidth (width n : ℕ) : Type 0 where
   pub exponent : ℕ
   pub power_is : width ≡ 2 ^ exponent
@@ -62,8 +63,8 @@ no_interval = record { without = no_span; with = no_span; perfect = no_span; liv
 abbrev pub interval_at : List Interval → ℕ → Interval
 interval_at intervals k = slice_index_or intervals k no_interval
 
--- what a contract sees of `Curves`: the calls that are measured, how many calls were looked at and how many of them
--- were measured, the calls of an interval, and the intervals
+-- what a contract sees of `Curves`: the window of calls to measure, the number of calls so far, the number of measured
+-- calls, the calls of an interval, and the intervals
 pub record Gathered : Type 0 where
   pub window : Window
   pub calls : ℕ
@@ -71,7 +72,7 @@ pub record Gathered : Type 0 where
   pub width : ℕ
   pub intervals : List Interval
 
--- the curves are of these calls, after these samples
+-- the curves are right for this window after these samples, one for each call
 pub record IsOf (curves : Gathered) (w : Window) (samples : List Sample) : Type 0 where
   pub window_is : curves.window ≡ w
   pub calls_are : curves.calls ≡ length samples
@@ -80,13 +81,13 @@ pub record IsOf (curves : Gathered) (w : Window) (samples : List Sample) : Type 
   pub intervals_are : length curves.intervals ≡ div_ceil (length (measured w samples)) curves.width
   pub each_is : (k : ℕ) → k < length curves.intervals → interval_at curves.intervals k ≡ interval_of (piece curves.width k (readings w samples))
 
--- the intervals are of these readings
+-- the intervals are right for these readings
 pub record AreOf (intervals : Intervals) (rs : List Reading) : Type 0 where
   pub count_is : intervals.count ≡ length rs
   pub width_is : IsWidth intervals.width (length rs)
   pub each_is : (k : ℕ) → k * intervals.width < length rs → interval_at intervals.list.items k ≡ interval_of (piece intervals.width k rs)
 
--- there is room for 600 intervals, and the readings make no more
+-- the list has room for 600 intervals, an interval has at least one call, and the readings make at most 600 intervals
 pub record IsSound (intervals : Intervals) : Type 0 where
   pub room : length intervals.list.items ≡ 600
   pub wide : 0 < intervals.width

@@ -1,4 +1,4 @@
--- What was gathered, and that it is of these samples.
+-- What was gathered of samples, for the form that the options ask for.
 use Rattle.std.specs.Prelude.{◌≡◌, ℕ, List}
 use Rattle.mesh_figures.specs.Figures.{IsOf as AreFiguresOf}
 use Rattle.mesh_figures.specs.declared.samples.Sample.{Sample}
@@ -8,12 +8,12 @@ use Rattle.mesh_savings_report.specs.declared.gathered.Gathered.TheVariants.{Plo
 use Rattle.mesh_savings_report.specs.declared.options.Form.TheVariants.{Plot as OfPlot, Table as OfTable}
 use Rattle.mesh_savings_report.specs.declared.options.SavingsOptions.{SavingsOptions}
 
--- it is for the form that is asked for, and of these samples, one behind each call
+-- this was gathered for the form that the options ask for, and of these samples, one after each call
 abbrev pub IsOf : Gathered → SavingsOptions → List Sample → Type 0
 IsOf (Table figures) options samples = (options.form ≡ OfTable) × AreFiguresOf figures options.window samples
 IsOf (Plot curves) options samples = (options.form ≡ OfPlot) × AreCurvesOf curves options.window samples
 
--- how many calls were looked at
+-- the number of calls after which a sample was gathered
 abbrev pub calls_in : Gathered → ℕ
 calls_in (Table figures) = figures.calls
 calls_in (Plot curves) = curves.calls

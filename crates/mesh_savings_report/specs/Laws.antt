@@ -10,26 +10,28 @@ use Rattle.mesh_savings.specs.declared.calls.Call.{Call}
 use Rattle.mesh_savings.specs.declared.settings.Settings.{Settings}
 use Rattle.mesh_savings_report.specs.Samples.{sample_of}
 
--- perfect packing takes at most the pages of either heap, class by class
+-- in each class, perfect packing needs at most the pages of each heap
 pub record IsLeast (sample : Sample) : Type 0 where
   pub without : (k : ℕ) → of_class k sample.perfect ≤ of_class k sample.without
   pub with : (k : ℕ) → of_class k sample.perfect ≤ of_class k sample.with
 
--- so it is behind any calls
+-- if calls can be made, then in the sample after them perfect packing needs at most the pages of each heap
 abbrev pub PerfectIsLeast : Type 0
 PerfectIsLeast = (settings : Settings) (calls : List Call) (f : Followed) → run settings (start settings) calls ≡ Goes f → IsLeast (sample_of f)
 
--- a figure of perfect packing is at most that of either heap
+-- the figure of perfect packing is at most the figure of each heap
 pub record IsLeastFigure (pages : Pages) : Type 0 where
   pub without : pages.perfect ≤ pages.without
   pub with : pages.perfect ≤ pages.with
 
--- so are the peak, the mean and the last of these samples' total pages
+-- for the peak, the mean and the last of these samples' total pages, the figure of perfect packing is at most that of
+-- each heap
 pub record AreLeastFigures (samples : List Sample) : Type 0 where
   pub peaks : IsLeastFigure (pages_by peak total samples)
   pub means : IsLeastFigure (pages_by mean total samples)
   pub ends : IsLeastFigure (pages_by last total samples)
 
--- and those of the samples that are measured, whichever they are
+-- if perfect packing needs at most the pages of each heap in every sample, then this holds of the three figures too,
+-- whichever samples are measured
 abbrev pub PerfectFiguresAreLeast : Type 0
 PerfectFiguresAreLeast = (window : Window) (samples : List Sample) → All IsLeast samples → AreLeastFigures (measured window samples)

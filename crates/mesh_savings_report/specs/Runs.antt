@@ -1,4 +1,4 @@
--- The calls so far, made in both heaps and looked at, and what an entry does to them.
+-- A run, which makes the calls so far in both heaps and samples them, and what an entry does to it.
 use Rattle.std.specs.Prelude.{◌≡◌, ◌≤◌, ℕ, ◌+◌, ◌<◌, ◌-◌, ◌^◌, List, [], ◌∷◌, ◌++◌, Option, length}
 use Rattle.mesh_devices.specs.declared.faults.ReplayError.TheVariants.{Read, Write, Text, Memory}
 use Rattle.mesh_figures.specs.declared.samples.Sample.{Sample}
@@ -15,61 +15,65 @@ use Rattle.mesh_savings_report.specs.declared.errors.SavingsError.TheVariants.{R
 use Rattle.mesh_savings_report.specs.declared.options.SavingsOptions.{SavingsOptions}
 use Rattle.mesh_savings_report.specs.declared.runs.Run.{Run}
 
--- the calls have led to this state, and these samples were taken, one behind each call
+-- the run represents this state, and has gathered these samples, one after each call
 pub record IsRun (run : Run) (options : SavingsOptions) (f : Followed) (samples : List Sample) : Type 0 where
   pub settings : run.savings.settings ≡ options.settings
   pub follows : Follows run.savings f
   pub gathered : IsOf run.gathered options samples
   pub calls : f.counts.calls ≡ length samples
 
--- one more call can be made and looked at
+-- the run has room for one more call and its sample
 pub record HasRoom (run : Run) : Type 0 where
   pub numbers : HasNumbers run.savings
   pub calls : calls_in run.gathered < 2 ^ 32 - 1
 
--- what became of a call of this outcome: it was made, and a sample was taken behind it; or it can't be made, and
--- nothing changed
+-- the run after a call with this outcome: the call was made and a sample was taken after it, or the call can't be made
+-- and nothing changed
 abbrev pub IsCallTaken : Run → SavingsOptions → Followed → List Sample → Outcome → Taken → Type 0
 IsCallTaken run options f samples (Goes next) Made = IsRun run options next (samples ++ sample_of next ∷ [])
 IsCallTaken run options f samples HasNoObject NoObject = IsRun run options f samples
 IsCallTaken run options f samples HasNoAddresses NoAddresses = IsRun run options f samples
 IsCallTaken run options f samples _ _ = ⊥
 
--- wherever the run was, it is where the call leads
+-- whatever the old run represents, the new run represents what the call leads to, or the same if the call can't be made
 abbrev pub IsTakenBy : Run → Run → (SavingsOptions → Followed → Outcome) → Taken → Type 0
 IsTakenBy old new outcome taken =
     (options : SavingsOptions) (f : Followed) (samples : List Sample) → IsRun old options f samples
     → IsCallTaken new options f samples (outcome options f) taken
 
--- the next entry is on this line, and each of the calls has a line before it, behind the head
+-- the run represents this state and these samples, and the next entry is on this line. The head and each call have a
+-- line of their own before this line
 pub record IsAt (run : Run) (line : ℕ) (options : SavingsOptions) (f : Followed) (samples : List Sample) : Type 0 where
   pub is_run : IsRun run options f samples
   pub few : length samples + 2 ≤ line
 
--- where an entry with this call, on this line, has led to
+-- the new run represents the state and the samples after an entry with this call on this line, and the report goes on
+-- from there
 pub record IsPassed (new : Run) (line : ℕ) (call : Option Call) (options : SavingsOptions) (f : Followed) (samples : List Sample) : Type 0 where
   pub next : Followed
   pub seen : List Sample
   pub at : IsAt new (line + 1) options next seen
   pub on : (later : Followed → List Sample → Report) → by_call options.settings f samples line call later ≡ later next seen
 
--- wherever the run was, the entry has led it on
+-- whatever the old run represents, the new run represents what the entry leads to
 abbrev pub Passes : Run → Run → ℕ → Option Call → Type 0
 Passes old new line call = (options : SavingsOptions) (f : Followed) (samples : List Sample) → IsAt old line options f samples
     → IsPassed new line call options f samples
 
--- a heap has too few virtual pages left for the entry's call, which has this number; the run is where it was
+-- a heap has too few virtual pages left for the entry's call, which has this number; the run represents the state
+-- before the call
 pub record IsUsedUpBy (new : Run) (line : ℕ) (call : Option Call) (number : ℕ) (options : SavingsOptions) (f : Followed) (samples : List Sample) : Type 0 where
   pub is_run : IsRun new options f samples
   pub ends : (later : Followed → List Sample → Report) → by_call options.settings f samples line call later ≡ UsedUp number f samples
 
--- so it is, wherever the run was
+-- whatever the old run represents, a heap has too few virtual pages left for the entry's call, which has this number,
+-- and the new run represents the same
 abbrev pub UsesUp : Run → Run → ℕ → Option Call → ℕ → Type 0
 UsesUp old new line call number = (options : SavingsOptions) (f : Followed) (samples : List Sample) → IsAt old line options f samples
     → IsUsedUpBy new line call number options f samples
 
--- wherever the run was, the entry leads nowhere: this is reported. Nothing is said if an allocation failed, and there
--- is no other error
+-- whatever the old run represents, the report ends at the entry with this error. If an allocation failed, nothing is
+-- claimed, and there is no other error
 abbrev pub Fails : Run → ℕ → Option Call → SavingsError → Type 0
 Fails old line call (NotAHistory at) = (options : SavingsOptions) (f : Followed) (samples : List Sample) → IsAt old line options f samples
     → (later : Followed → List Sample → Report) → by_call options.settings f samples line call later ≡ NotHistory at

@@ -1,4 +1,4 @@
--- What is looked at behind a call, and what is counted of a whole run.
+-- The sample that is taken after a call, and the counts of a whole run.
 use Rattle.std.specs.Prelude.{ℕ, ◌-◌, List, map, sum_by}
 use Rattle.model_heap.specs.Table.{Table}
 use Rattle.model_words.specs.Classes.{table}
@@ -13,7 +13,7 @@ use Rattle.mesh_spans.specs.Counts.{byte_count}
 abbrev pub physical_pages : Table → List ℕ
 physical_pages t = map (λ row. class_pages t row.size) table
 
--- the pages of the fewest spans of each class that its objects fit in
+-- for each class, the pages of the fewest spans in which its objects fit
 abbrev pub perfect_pages : Table → List ℕ
 perfect_pages t = map (λ row. pages_needed row.size (class_objects t row.size)) table
 
@@ -21,7 +21,7 @@ perfect_pages t = map (λ row. pages_needed row.size (class_objects t row.size))
 abbrev pub live_bytes : Table → ℕ
 live_bytes t = sum_by byte_count t.groups
 
--- what both heaps hold. They have the same objects, so perfect packing and live bytes are those of either
+-- the sample of both heaps. The heaps have the same objects, so perfect packing and live bytes are equal for both
 unfoldable pub sample_of : Followed → Sample
 sample_of f = record {
   without = physical_pages f.heaps.without;
@@ -30,7 +30,7 @@ sample_of f = record {
   live_bytes = live_bytes f.heaps.without;
 }
 
--- what is counted of the calls so far, and the virtual pages that the heap that meshes used
+-- the counts of the calls so far, and the virtual pages that the meshing heap used
 unfoldable pub counts_of : Followed → Counts
 counts_of f = record {
   most_objects = f.counts.most_small;

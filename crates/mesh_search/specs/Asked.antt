@@ -8,7 +8,7 @@ use Rattle.mesh_search.specs.declared.parallel.Part.{Part}
 abbrev pub IsAsked : ℕ → ℕ → ℕ → Part → Type 0
 IsAsked round first count part = (part.round ≡ round) × (part.first ≡ first) × (part.count ≡ count)
 
--- each part that was made is the one of its place that was asked for
+-- if part `k` was made, it is the k-th of the `workers` parts into which the tries of the round are divided
 abbrev pub AreAsked : ℕ → ℕ → ℕ → List (Result Part AllocError) → Type 0
 AreAsked round tries workers made =
     (k : ℕ) (d : Result Part AllocError) → k < workers

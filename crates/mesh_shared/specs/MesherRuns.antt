@@ -6,38 +6,38 @@ use Rattle.mesh_shared.specs.declared.mesher.Meshed.{Meshed}
 use Rattle.mesh_shared.specs.declared.plan.MeshPlan.{MeshPlan}
 use Rattle.mesh_shared.specs.declared.stops.EarlyExit.{EarlyExit}
 
--- the words of a round: those from number 256 times the round on, 256 of them as far as there are any
+-- the words of a round: 256 words from index 256 times the round on, or fewer if there are fewer
 abbrev pub words_in : List ℕ → ℕ → List ℕ
 words_in words round = take 256 (drop (256 * round) words)
 
--- of views from a place on those whose place leaves a mesher's number when divided by the number of meshers
+-- the views whose place, counted from `place`, has the remainder `number` when divided by the number of meshers
 abbrev pub own_from : ℕ → ℕ → ℕ → List View → List View
 own_from meshers number place [] = []
 own_from meshers number place (view ∷ rest) =
     if place % meshers == number then view ∷ own_from meshers number (suc place) rest else own_from meshers number (suc place) rest
 
--- the views of a mesher's classes
+-- the views of a mesher's own classes
 abbrev pub own_views : ℕ → ℕ → List View → List View
 own_views meshers number all = own_from meshers number 0 all
 
--- the views are those of a mesher's classes in some table
+-- the views are those of a mesher's own classes in some table
 pub record AreOwn (plan : MeshPlan) (number : ℕ) (own : List View) : Type 0 where
   pub table : Table
   pub is_own : own ≡ own_views plan.meshers number (views table)
 
--- a mesher's classes of some table were searched by the words of this round
+-- a mesher's own classes, as some table has them, were searched with the words of this round
 pub record HasSearched (plan : MeshPlan) (number round : ℕ) (own : List View) (found : List Found) : Type 0 where
   pub of_classes : AreOwn plan number own
   pub by_words : found ≡ map (λ view. search view (words_in plan.words.items round) plan.t) own
 
--- what a mesher reports: its number; that it made all rounds, each pair of which was refused or meshed to its end,
--- unless its calls were over or it was stopped; and if its calls are limited, that no more were answered
+-- a mesher reports its number, and all rounds, unless its calls are used up or it was stopped. If its calls are
+-- limited, no more than the limit were answered
 pub record HasMeshed (rounds number : ℕ) (most : Option ℕ) (told : Meshed) (stop : Option EarlyExit) : Type 0 where
   pub named : told.number ≡ number
   pub whole : (most ≡ Some told.calls → ⊥) → stop ≡ None → told.rounds ≡ rounds
   pub few : (n : ℕ) → most ≡ Some n → told.calls ≤ n
 
--- each mesher of the plan reports so, none was stopped, and each has its own number
+-- each mesher of the plan reports this, with its own number, and none was stopped
 pub record AreMeshed (plan : MeshPlan) (most : Option ℕ) (told : List Meshed) : Type 0 where
   pub many : length told ≡ plan.meshers
   pub each : (q : ℕ) (d : Meshed) → q < plan.meshers → HasMeshed plan.rounds q most (slice_index_or told q d) None

@@ -1,4 +1,4 @@
--- What no run of scripts leaves, and which of several stops is reported.
+-- Examples of what a run of scripts leaves and can't leave, and which of several stops is reported.
 use Rattle.std.specs.Prelude.{◌≡◌, ℕ, ◌≤◌, List, [], ◌∷◌, Option, Some, None, slice_get}
 use Rattle.model_memory.specs.Memory.{Memory, empty_memory}
 use Rattle.model_memory.specs.Plain.{Entry}
@@ -11,22 +11,22 @@ use Rattle.mesh_shared.specs.Stops.{first_stop}
 use Rattle.mesh_shared.specs.declared.stops.EarlyExit.{EarlyExit}
 use Rattle.mesh_shared.specs.declared.stops.EarlyExit.TheVariants.{Memory as NoMemory, Thread, History}
 
--- two scripts: one command of worker 0, two of worker 1, each a `new` of no byte for a cell of its own
+-- two scripts: one command of worker 0 and two of worker 1, each a `new` of 0 bytes with a cell of its own
 abbrev pub two_scripts : List (List Command)
 two_scripts = (New 0 0 0 ∷ []) ∷ (New 1 0 0 ∷ New 2 0 0 ∷ []) ∷ []
 
--- a worker's `new` of no byte, which is refused
+-- a worker's `new` of 0 bytes, which is refused
 abbrev pub refused_new : ℕ → ℕ → Entry
 refused_new worker cell = record { worker = worker; command = New cell 0 0; reply = Refused Zero }
 
--- all three commands were answered, worker 1 first
+-- if all three commands were answered, worker 1 first, the scripts were run
 abbrev pub whole_run : List Entry
 whole_run = refused_new 1 1 ∷ refused_new 0 0 ∷ refused_new 1 2 ∷ []
 
 abbrev pub WholeIsRun : Type 0
 WholeIsRun = HasRun two_scripts whole_run empty_memory
 
--- without the last command of worker 1 the scripts were begun, and not run
+-- if the last command of worker 1 is missing, the scripts were begun, but not run
 abbrev pub without_last : List Entry
 without_last = refused_new 1 1 ∷ refused_new 0 0 ∷ []
 
@@ -36,11 +36,11 @@ WithoutLastIsBegun = HasBegun two_scripts without_last empty_memory
 abbrev pub WithoutLastIsNoRun : Type 0
 WithoutLastIsNoRun = (end : Memory) → HasRun two_scripts without_last end → ⊥
 
--- where the script of worker 0 alone is whole, the scripts were not run
+-- if only the script of worker 0 is whole, the scripts were not run
 abbrev pub FirstAloneIsNoRun : Type 0
 FirstAloneIsNoRun = (end : Memory) → HasRun two_scripts (refused_new 0 0 ∷ []) end → ⊥
 
--- with an entry of a worker that there isn't they were neither run nor begun
+-- if there is an entry of a worker without a script, the scripts were neither run nor begun
 abbrev pub with_stranger : List Entry
 with_stranger = refused_new 2 1 ∷ whole_run
 
@@ -50,7 +50,7 @@ StrangerIsNoRun = (end : Memory) → HasRun two_scripts with_stranger end → �
 abbrev pub StrangerIsNoBeginning : Type 0
 StrangerIsNoBeginning = (end : Memory) → HasBegun two_scripts with_stranger end → ⊥
 
--- nor where two workers' commands are exchanged
+-- if two workers' commands are exchanged, the scripts were neither run nor begun
 abbrev pub exchanged : List Entry
 exchanged = refused_new 1 0 ∷ refused_new 0 1 ∷ refused_new 1 2 ∷ []
 
@@ -66,15 +66,15 @@ place_of NoMemory = 0
 place_of Thread = 1
 place_of History = 2
 
--- the stop that is reported stopped some thread
+-- if a stop is reported, it stopped some thread
 abbrev pub ToldIsThere : Type 0
 ToldIsThere = (stops : List (Option EarlyExit)) (stop : EarlyExit) → first_stop stops ≡ Some stop → (i : ℕ) × (slice_get stops i ≡ Some (Some stop))
 
--- and nothing that stopped a thread comes before it in the order
+-- if a stop is reported, no stop of any thread comes before it in the order
 abbrev pub ToldIsFirst : Type 0
 ToldIsFirst = (stops : List (Option EarlyExit)) (stop other : EarlyExit) (i : ℕ) → first_stop stops ≡ Some stop → slice_get stops i ≡ Some (Some other)
     → place_of stop ≤ place_of other
 
--- no stop is reported only if nothing stopped a thread
+-- if no stop is reported, nothing stopped a thread
 abbrev pub NothingIsToldOfNone : Type 0
 NothingIsToldOfNone = (stops : List (Option EarlyExit)) (stop : EarlyExit) (i : ℕ) → first_stop stops ≡ None → slice_get stops i ≡ Some (Some stop) → ⊥

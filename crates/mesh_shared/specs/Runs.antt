@@ -11,7 +11,7 @@ use Rattle.mesh_shared.specs.declared.plan.MeshPlan.{MeshPlan}
 use Rattle.mesh_shared.specs.declared.stops.EarlyExit.{EarlyExit}
 use Rattle.mesh_shared.specs.declared.worker.Worked.{Worked}
 
--- a plan has 1 to 16 searchers and 1 to 10 meshers
+-- a plan has 1 to 16 search workers and 1 to 10 meshers
 abbrev pub IsFairPlan : MeshPlan → Type 0
 IsFairPlan plan = (1 ≤ plan.workers) × (plan.workers ≤ 16) × (1 ≤ plan.meshers) × (plan.meshers ≤ 10)
 
@@ -27,19 +27,19 @@ commands_by worker entries = map (λ call. call.command) (calls_of worker entrie
 abbrev pub script_of : List (List Command) → ℕ → List Command
 script_of scripts w = slice_index_or scripts w []
 
--- the entries of each worker are its whole script, with its answers in their order; the history is legal and ends in
--- this memory
+-- the history is legal and ends in this memory. Each worker's entries are its whole script, in order, and no other
+-- worker has an entry
 pub record HasRun (scripts : List (List Command)) (history : List Entry) (end : Memory) : Type 0 where
   pub legal : IsLegal history end
   pub whole : (w : ℕ) → w < length scripts → commands_by w history ≡ script_of scripts w
   pub no_other : All (λ entry. entry.worker < length scripts) history
 
--- the commands begin the script
+-- the commands are a prefix of the script
 abbrev pub IsBeginning : List Command → List Command → Type 0
 IsBeginning commands script = commands ≡ take (length commands) script
 
--- the entries of each worker are a beginning of its script, with its answers in their order; the history is legal and
--- ends in this memory
+-- the history is legal and ends in this memory. Each worker's entries are a prefix of its script, in order, and no
+-- other worker has an entry
 pub record HasBegun (scripts : List (List Command)) (history : List Entry) (end : Memory) : Type 0 where
   pub legal : IsLegal history end
   pub begun : (w : ℕ) → w < length scripts → IsBeginning (commands_by w history) (script_of scripts w)
@@ -49,20 +49,20 @@ pub record HasBegun (scripts : List (List Command)) (history : List Entry) (end 
 abbrev pub commands_in : List Kept → List Command
 commands_in calls = map (λ kept. kept.command) calls
 
--- a worker's calls are its whole script, and it gave up no command; or it gave up the next one, after as many attempts
--- as it makes at a command
+-- a worker's calls are its whole script, and it gave up no command; or it gave up the next command, after the limit of
+-- tries
 abbrev pub HasEnded : Option ℕ → List Command → List Command → ℕ → Type 0
 HasEnded tries script called tried = ((called ≡ script) × (tried ≡ 0)) ⊎ ((tries ≡ Some tried) × (length called < length script))
 
--- the calls are a prefix of the script, and all of it if tries were unlimited and nothing stopped the worker; if
--- nothing stopped it, it reports how it ended
+-- the calls are a prefix of the script. If nothing stopped the worker, it reports how it ended, and with unlimited
+-- tries the calls are the whole script
 pub record HasWorked (tries : Option ℕ) (script : List Command) (calls : List Kept) (tried : ℕ) (stop : Option EarlyExit) : Type 0 where
   pub begun : IsBeginning (commands_in calls) script
   pub whole : tries ≡ None → stop ≡ None → commands_in calls ≡ script
   pub ended : stop ≡ None → HasEnded tries script (commands_in calls) tried
 
--- there is a seat for each script, whose calls are a prefix of it, and all of it if tries were unlimited; and each
--- worker reports how it ended
+-- there is a seat for each script, and the seat's calls are a prefix of the script. If tries were unlimited, they are
+-- the whole script. Each worker reports how it ended
 pub record AreServed (tries : Option ℕ) (scripts : List (List Command)) (seats : List Seat) (told : List Worked) : Type 0 where
   pub many : length seats ≡ length scripts
   pub begun : (w : ℕ) → w < length scripts → IsBeginning (commands_in (kept_by (calls_of_seats seats) w)) (script_of scripts w)

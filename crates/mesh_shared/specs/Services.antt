@@ -1,4 +1,4 @@
--- What comes of what the threads of a run gave back.
+-- The answer of a run, by what its threads returned.
 use Rattle.std.specs.Prelude.{◌≡◌, List, Option, Some, None, Result, Err, IfErr, IfOk, OnOk, map}
 use Rattle.mesh_shared.specs.Joined.{stops_of}
 use Rattle.mesh_shared.specs.Stops.{error_of, first_stop}
@@ -9,7 +9,8 @@ use Rattle.mesh_shared.specs.declared.stops.RunError.TheVariants.{Memory}
 use Rattle.mesh_shared.specs.declared.stops.EarlyExit.{EarlyExit}
 use Rattle.mesh_shared.specs.declared.worker.Served.{Served}
 
--- if something stopped a thread, the first stop is returned; otherwise what the threads did, or out of memory
+-- if something stopped a thread, the error of the stop that comes first is returned. Otherwise the answer is what the
+-- threads did, or out of memory
 pub record IsAnswer (refused : Option EarlyExit) (ends : List MesherEnd) (served : List Served) (answer : Result Service RunError) : Type 0 where
   pub stopped : (stop : EarlyExit) → first_stop (stops_of refused ends served) ≡ Some stop → answer ≡ Err (error_of stop)
   pub unstopped : OnOk answer (first_stop (stops_of refused ends served) ≡ None)

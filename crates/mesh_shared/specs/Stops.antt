@@ -7,7 +7,7 @@ use Rattle.mesh_shared.specs.declared.stops.RunError.TheVariants.{Memory as NoMe
 use Rattle.mesh_shared.specs.declared.stops.EarlyExit.{EarlyExit}
 use Rattle.mesh_shared.specs.declared.stops.EarlyExit.TheVariants.{Memory, Thread, History}
 
--- of two stops out of memory is reported first, then a thread, then the journal
+-- the stop that is reported of two: out of memory before a thread, and a thread before the journal
 abbrev pub first_of : EarlyExit → EarlyExit → EarlyExit
 first_of Memory other = Memory
 first_of Thread Memory = Memory
@@ -15,13 +15,13 @@ first_of Thread Thread = Thread
 first_of Thread History = Thread
 first_of History other = other
 
--- of two ends; a thread that came to its own end has no stop to report
+-- the stop that is reported of two threads. A thread that came to its own end has none
 abbrev pub either_stop : Option EarlyExit → Option EarlyExit → Option EarlyExit
 either_stop None other = other
 either_stop (Some stop) None = Some stop
 either_stop (Some stop) (Some other) = Some (first_of stop other)
 
--- of all ends
+-- the stop that is reported of all threads
 abbrev pub first_stop : List (Option EarlyExit) → Option EarlyExit
 first_stop [] = None
 first_stop (stop ∷ stops) = either_stop stop (first_stop stops)
@@ -32,7 +32,7 @@ error_of Memory = NoMemory
 error_of Thread = NoThread
 error_of History = NoRoom
 
--- the stop that reports why a search ended
+-- the stop of a thread whose search ended with this error
 abbrev pub stop_of : SearchError → EarlyExit
 stop_of SearchMemory = Memory
 stop_of SearchThread = Thread

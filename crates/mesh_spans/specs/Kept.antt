@@ -1,4 +1,4 @@
--- What the keeper of the groups keeps as they change.
+-- What always holds of the groups with their bins and counts.
 use Rattle.std.specs.Prelude.{◌≡◌, ℕ, ◌≤◌, List, Option, Some, length}
 use Rattle.std.specs.Ordering.{nat_cmp}
 use Rattle.std.specs.FinSet as set
@@ -7,8 +7,7 @@ use Rattle.mesh_spans.specs.GroupBins.{IsFiled}
 use Rattle.mesh_spans.specs.Index.{GroupEntry, IsGroup, group_at}
 use Rattle.mesh_spans.specs.declared.totals.Totals.{Totals}
 
--- the groups are no more than there are numbers, each is one, each is in its bin, and the counts are those over all of
--- them
+-- there are at most 65,536 groups, each is valid and in its bin, and the counts are the sums over all groups
 pub record AreKept (groups : List (Option GroupEntry)) (bins : List (set.FinSet nat_cmp)) (totals : Totals) : Type 0 where
   pub few : length groups ≤ 65536
   pub each : (n : ℕ) (group : GroupEntry) → group_at groups n ≡ Some group → IsGroup group

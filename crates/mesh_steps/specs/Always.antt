@@ -1,4 +1,4 @@
--- What always holds of a heap's live objects, of their places and pages, and of its read-only pages.
+-- What always holds of a heap's live objects, of their places and pages, and of the heap's read-only pages.
 use Rattle.std.specs.Prelude.{◌≡◌, ◌≢◌, ℕ, true, nat_eq, Some}
 use Rattle.std.specs.List.{list_any}
 use Rattle.mesh_arena.specs.Pages.{IsTaken}
@@ -16,20 +16,20 @@ abbrev pub HasObjectsApart : Heap → Type 0
 HasObjectsApart h = (i j x : ℕ) (r q : Record) → record_with i (live_records h) ≡ Some r → record_with j (live_records h) ≡ Some q → i ≢ j
     → IsIn r x → IsIn q x → ⊥
 
--- no two addresses of live objects, of one or of two, have one place
+-- two different addresses of live objects, in one object or in two, have different places
 abbrev pub HasPlacesApart : Heap → Type 0
 HasPlacesApart h = (i j x y : ℕ) (r q : Record) → record_with i (live_records h) ≡ Some r → record_with j (live_records h) ≡ Some q
     → IsIn r x → IsIn q y → x ≢ y → place_of (targets_of (map_of h)) x ≢ place_of (targets_of (map_of h)) y
 
--- each physical page that holds a live object is taken, so a free page holds none
+-- each physical page that holds a live object is taken, so no free page holds one
 abbrev pub HasHeldPagesTaken : Heap → Type 0
 HasHeldPagesTaken h = (serial page : ℕ) (r : Record) → record_with serial (live_records h) ≡ Some r → holds (targets_of (map_of h)) page r ≡ true
     → IsTaken (arena_of h) page
 
--- the read-only virtual pages are those of the running meshes
+-- the read-only virtual pages are exactly those that the progress of the running meshes makes read-only
 abbrev pub HasReadOnlyOfMeshes : Heap → Type 0
 HasReadOnlyOfMeshes h = (v : ℕ) → is_read_only (map_of h) v ≡ list_any (nat_eq v) (read_only_pages (table_of h))
 
--- groups, page map and arena lie as the running meshes have them
+-- layout, page map and arena agree with the running meshes
 abbrev pub LiesAsMeshesHaveIt : Heap → Type 0
 LiesAsMeshesHaveIt h = IsLaidOut (layout_of (index_of h)) (stage_of (layout_of (index_of h)) (table_of h).meshes) (map_of h) (arena_of h)

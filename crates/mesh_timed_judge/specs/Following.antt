@@ -1,4 +1,4 @@
--- What a timed judge knows, and which calls it has followed.
+-- The state of a timed judge, and which calls it has followed.
 use Rattle.std.specs.Prelude.{◌≡◌, ◌≢◌, ◌↔◌, ℕ, suc, ◌<◌, ◌≤◌, List, [], ◌∷◌, Option, Some, None, length, map, slice_get, slice_set}
 use Rattle.mesh_configurations.specs.Carried.{HasMore, carry}
 use Rattle.mesh_configurations.specs.Orders.{EndsBefore, HasEnded, NumberedEvent, begun_behind}
@@ -8,12 +8,12 @@ use Rattle.mesh_configurations.specs.Refuted.{IsRefuted}
 use Rattle.mesh_configurations.specs.Standings.{Begins, CanGoOn, Ends, Event, Standing, effect_at, first_standing, had_effect}
 use Rattle.mesh_timed_judge.specs.TimedCalls.{Timed}
 
--- what a timed judge knows: what its judge knows, and the number of the call that is pending at each place
+-- the state of a timed judge: the state of its judge, and the number of the call that is pending at each place
 pub record TimedStanding (S C : Type 0) : Type 0 where
   pub standing : Standing S C
   pub numbers : List (Option ℕ)
 
--- the call of a number is pending
+-- the call with this number is pending
 abbrev pub IsOpen : {S C : Type 0} → TimedStanding S C → ℕ → Type 0
 IsOpen judge number = (place : ℕ) × (slice_get judge.numbers place ≡ Some (Some number))
 
@@ -25,30 +25,32 @@ IsFull judge = (place : ℕ) → place < 64 → (number : ℕ) × (slice_get jud
 abbrev pub HasSome : {S C : Type 0} → (S → C → Option S) → TimedStanding S C → Type 0
 HasSome effect judge = CanGoOn effect judge.standing []
 
--- more than this number of configurations can be made up to the end of the call of a number
+-- up to the end of the call with this number, effects lead to more than `most` configurations
 abbrev pub HasMoreAtEnd : {S C : Type 0} → (S → C → Option S) → TimedStanding S C → ℕ → ℕ → Type 0
 HasMoreAtEnd effect judge number most = (place : ℕ) × (slice_get judge.numbers place ≡ Some (Some number))
     × HasMore (carry (effect_at effect judge.standing.pending) had_effect place) (length judge.standing.pending) judge.standing.kept most
 
--- the call is the one that was pending under the number, and the configurations are exactly the kept ones and those
--- that effects of pending calls, up to that of the call, make of them
+-- the refutation has the call that was pending under this number. Its configurations are exactly the kept ones, and
+-- those to which effects of pending calls, up to that of this call, lead from them
 abbrev pub IsRefutedOf : {O S C : Type 0} → (S → C → Option S) → TimedStanding S C → ℕ → Refutation O S C → Type 0
 IsRefutedOf effect old number refutation = (place : ℕ) × (slice_get old.numbers place ≡ Some (Some number)) × IsRefuted effect old.standing place refutation
 
--- a place has a number exactly where it has a pending call, and is in both lists or in none
+-- a place is in both lists or in none, and has a number if and only if a call is pending there
 abbrev pub IsNumbered : {C : Type 0} → Option (Option C) → Option (Option ℕ) → Type 0
 IsNumbered None None = Unit {0}
 IsNumbered (Some None) (Some None) = Unit {0}
 IsNumbered (Some (Some call)) (Some (Some number)) = Unit {0}
 IsNumbered call number = ⊥
 
--- there are 64 places, each with a number exactly where a call is pending there, and no number is at two places
+-- there are 64 places, each has a number if and only if a call is pending there, and no number is at two places
 pub record AreNumbered {C : Type 0} (pending : List (Option C)) (numbers : List (Option ℕ)) : Type 0 where
   pub all : length numbers ≡ 64
   pub each : (place : ℕ) → IsNumbered (slice_get pending place) (slice_get numbers place)
   pub once : (p q number : ℕ) → slice_get numbers p ≡ Some (Some number) → slice_get numbers q ≡ Some (Some number) → p ≡ q
 
--- a call may begin now, behind calls of which those that aren't pending have ended
+-- a call may begin after these calls, of which those that aren't pending have ended. Its number is new, it doesn't end
+-- before it begins, and no call began later. Each ended call ended before it begins, and no pending call ends before it
+-- begins
 pub record CanBegin {S C : Type 0} (calls : List (Timed C)) (judge : TimedStanding S C) (timed : Timed C) : Type 0 where
   pub own : (i : ℕ) (other : Timed C) → slice_get calls i ≡ Some other → other.number ≢ timed.number
   pub takes_time : timed.begin ≤ timed.end
@@ -56,23 +58,24 @@ pub record CanBegin {S C : Type 0} (calls : List (Timed C)) (judge : TimedStandi
   pub after_ended : (i : ℕ) (other : Timed C) → slice_get calls i ≡ Some other → (IsOpen judge other.number → ⊥) → other.end < timed.begin
   pub before_ends : (i : ℕ) (other : Timed C) → slice_get calls i ≡ Some other → IsOpen judge other.number → timed.begin ≤ other.end
 
--- which call has each place after these events: calls are numbered from 0 in the order of their begins, and so many
--- have begun before
+-- the index of the call at each place after these events. Calls are counted from 0 in the order of their begins, and
+-- `begun` calls have begun before
 abbrev pub taken_behind : {C : Type 0} → ℕ → List (Option ℕ) → List (Event C) → List (Option ℕ)
 taken_behind begun taken [] = taken
 taken_behind begun taken (Begins place call ∷ placed) = taken_behind (suc begun) (slice_set taken place (Some begun)) placed
 taken_behind begun taken (Ends place ∷ placed) = taken_behind begun (slice_set taken place None) placed
 
--- a place is free for both, or the call that has it, by its index in the list, has this number
+-- a place is free in both lists or in neither list, or the call at the place's index has the place's number
 abbrev pub IsNumberOf : {C : Type 0} → List (Timed C) → Option (Option ℕ) → Option (Option ℕ) → Type 0
 IsNumberOf calls None None = Unit {0}
 IsNumberOf calls (Some None) (Some None) = Unit {0}
 IsNumberOf {C} calls (Some (Some i)) (Some (Some number)) = (timed : Timed C) × (slice_get calls i ≡ Some timed) × (timed.number ≡ number)
 IsNumberOf calls call number = ⊥
 
--- the judge follows these calls from a state on, in the order of their begins: it has taken their begins, and the ends
--- of those that aren't pending. The events name calls by their indices in the list. In the events a call ended before
--- another began exactly where it isn't pending and its end is before the other's begin
+-- the judge has followed these calls from a state on, in the order of their begins: it has taken all begins, and the
+-- ends of the calls that aren't pending. The events name calls by their indices in the list. In the events, call A
+-- ended before call B began if and only if A isn't pending and A's end is before B's begin. No two calls have one
+-- number, no call ends before it begins, and none begins after the end of a pending call
 pub record IsJudgeOf {S C : Type 0} (effect : S → C → Option S) (start : S) (calls : List (Timed C)) (judge : TimedStanding S C) : Type 0 where
   pub events : List NumberedEvent
   pub placed : List (Event C)

@@ -10,17 +10,17 @@ pub record Timed (C : Type 0) : Type 0 where
   pub end : ℕ
   pub call : C
 
--- the state behind calls in an order, if each answers as it was recorded
+-- the state after calls in this order, or none if a call would not answer as recorded
 abbrev pub state_behind : {S C : Type 0} → (S → C → Option S) → S → List (Timed C) → Option S
 state_behind effect state [] = Some state
 state_behind effect state (timed ∷ order) = option_and_then (λ next. state_behind effect next order) (effect state timed.call)
 
--- no call comes after one that began after it ended
+-- if call A ended before call B began, A isn't behind B in the order
 abbrev pub RespectsTime : {C : Type 0} → List (Timed C) → Type 0
 RespectsTime order = AllPairs (λ front back. back.end < front.begin → ⊥) order
 
--- an order of effects that explains calls: it has these calls, each once, it respects time, and each call answers as it
--- was recorded
+-- an order of effects that explains calls: it has exactly these calls, each once, it respects time, and each call
+-- answers as recorded
 pub record ExplainsTimed {S C : Type 0} (effect : S → C → Option S) (start : S) (calls order : List (Timed C)) : Type 0 where
   pub same : IsPermutation order calls
   pub in_time : RespectsTime order

@@ -1,4 +1,4 @@
--- The effects of steps, on two meshes written out, and what the words of the effects change.
+-- The effects of steps on two example meshes, and what each function that describes an effect changes.
 use Rattle.std.specs.Prelude.{◌≡◌, ◌≢◌, ℕ, ◌+◌, ◌<◌, ◌≤◌, Bool, true, false, List, [], ◌∷◌, ◌++◌, Some, None, map, replicate}
 use Rattle.model_words.specs.Classes.{slots_of}
 use Rattle.model_heap.specs.Mesh.{is_protected, page_count}
@@ -29,7 +29,8 @@ wide = record {
   into = 40 ∷ 42 ∷ 41 ∷ [];
 }
 
--- a protect makes one virtual page of the source read-only, members in their order, pages ascending
+-- a protect makes one virtual page of the source read-only; the protects go through the members in their order, and
+-- through each member's pages in ascending order
 abbrev pub ProtectsOnePage : Type 0
 ProtectsOnePage = (under : Under)
     → (step_effect narrow (Made 1) under ≡ record under { targets = with_protection under.targets 9 true })
@@ -45,7 +46,8 @@ CopiesNothing = (under : Under) → (step_effect narrow (Made 2) under ≡ under
 abbrev pub bytes_at : (Place → ℕ) → ℕ → List ℕ → List ℕ
 bytes_at bytes page offsets = map (λ offset. bytes (record { page = page; offset = offset })) offsets
 
--- a copy of two bytes writes these two, at the same offsets of the other page
+-- the copy of an object of two bytes writes these two bytes at the same offsets of the destination's page; the bytes
+-- beside them and the source's bytes don't change
 abbrev pub CopiesTwoBytes : Type 0
 CopiesTwoBytes = (under : Under)
     → (bytes_at (step_effect narrow (Made 3) under).bytes 8 (2047 ∷ 2048 ∷ 2049 ∷ 2050 ∷ [])
@@ -53,7 +55,7 @@ CopiesTwoBytes = (under : Under)
     × (bytes_at (step_effect narrow (Made 3) under).bytes 7 (2047 ∷ 2048 ∷ 2049 ∷ 2050 ∷ [])
     ≡ bytes_at under.bytes 7 (2047 ∷ 2048 ∷ 2049 ∷ 2050 ∷ []))
 
--- a copy that crosses the end of a page goes on at the beginning of the next one of the span
+-- a copy that crosses the end of a page continues at the beginning of the span's next page
 abbrev pub CopiesOverPages : Type 0
 CopiesOverPages = (under : Under)
     → (bytes_at (step_effect wide (Made 16) under).bytes 40 (3839 ∷ 3840 ∷ 4095 ∷ [])
@@ -61,12 +63,12 @@ CopiesOverPages = (under : Under)
     × (bytes_at (step_effect wide (Made 16) under).bytes 42 (0 ∷ 1 ∷ 2 ∷ []) ≡ bytes_at under.bytes 31 (0 ∷ 1 ∷ []) ++ bytes_at under.bytes 42 (2 ∷ []))
     × (bytes_at (step_effect wide (Made 16) under).bytes 41 (0 ∷ 1 ∷ []) ≡ bytes_at under.bytes 41 (0 ∷ 1 ∷ []))
 
--- a copy changes bytes alone
+-- a copy changes neither the page map nor the free pages
 abbrev pub CopyLeavesPages : Type 0
 CopyLeavesPages = (sides : Sides) (k : ℕ) (under : Under)
     → ((effect Copy sides k under).targets ≡ under.targets) × ((effect Copy sides k under).is_free ≡ under.is_free)
 
--- a remap leads one virtual page to the destination's physical page of the same number within the span
+-- a remap maps one virtual page of the source to the destination's physical page with the same number in its span
 abbrev pub RemapsOnePage : Type 0
 RemapsOnePage = (under : Under)
     → (step_effect narrow (Made 5) under ≡ record under { targets = with_page under.targets 9 8 })
@@ -74,73 +76,76 @@ RemapsOnePage = (under : Under)
     × (step_effect wide (Made 42) under ≡ record under { targets = with_page under.targets 10 42 })
     × (step_effect wide (Made 43) under ≡ record under { targets = with_page under.targets 11 41 })
 
--- an unprotect lets one virtual page be written, in the same order
+-- an unprotect makes one virtual page of the source writable, in the order of the protects
 abbrev pub UnprotectsOnePage : Type 0
 UnprotectsOnePage = (under : Under)
     → (step_effect narrow (Made 6) under ≡ record under { targets = with_protection under.targets 5 false })
     × (step_effect wide (Made 47) under ≡ record under { targets = with_protection under.targets 9 false })
 
--- a release gives one physical page of the source back, ascending
+-- a release frees one physical page of the source, in ascending order
 abbrev pub ReleasesOnePage : Type 0
 ReleasesOnePage = (under : Under)
     → (step_effect narrow (Made 8) under ≡ record under { is_free = with_free under.is_free 7 })
     × (step_effect wide (Made 50) under ≡ record under { is_free = with_free under.is_free 30 })
     × (step_effect wide (Made 52) under ≡ record under { is_free = with_free under.is_free 32 })
 
--- a step of a cancelled mesh lets one virtual page be written, in the order of the protects
+-- a step of a cancelled mesh makes one virtual page of the source writable, in the order of the protects
 abbrev pub UnwindsOnePage : Type 0
 UnwindsOnePage = (under : Under)
     → (step_effect narrow (Unwinding 2 0) under ≡ record under { targets = with_protection under.targets 5 false })
     × (step_effect wide (Unwinding 5 4) under ≡ record under { targets = with_protection under.targets 10 false })
 
--- another protection of a page leaves where it leads, and every other page
+-- if the protection of a page changes, the page is mapped to its physical page as before, and no other page changes
 abbrev pub ProtectionIsOfOne : Type 0
 ProtectionIsOfOne = (targets : ℕ → Target) (v : ℕ) (read_only : Bool)
     → (with_protection targets v read_only v ≡ record { page = (targets v).page; read_only = read_only })
     × ((w : ℕ) → w ≢ v → with_protection targets v read_only w ≡ targets w)
 
--- a page led elsewhere keeps its protection, and every other page stays
+-- if a page is mapped to another physical page, its protection doesn't change, and no other page changes
 abbrev pub LeadIsOfOne : Type 0
 LeadIsOfOne = (targets : ℕ → Target) (v page : ℕ)
     → (with_page targets v page v ≡ record { page = page; read_only = (targets v).read_only })
     × ((w : ℕ) → w ≢ v → with_page targets v page w ≡ targets w)
 
--- a page given back is free, and every other one stays
+-- a released page is free, and no other page changes
 abbrev pub FreeIsOfOne : Type 0
 FreeIsOfOne = (is_free : ℕ → Bool) (page : ℕ)
     → (with_free is_free page page ≡ true) × ((other : ℕ) → other ≢ page → with_free is_free page other ≡ is_free other)
 
--- each byte copied is the one at the same offset, as it was; two offsets of a span may not be one place
+-- if no lower copied offset shares a copied offset's place in the destination's span, this place gets the byte that the
+-- source's span had at the offset before
 abbrev pub CopiedAreTheSame : Type 0
 CopiedAreTheSame = (from into : List ℕ) (offset len o : ℕ) (bytes : Place → ℕ)
     → ((p : ℕ) → p < o → place_at into (offset + o) ≢ place_at into (offset + p)) → o < len
     → with_copied from into offset len bytes (place_at into (offset + o)) ≡ bytes (place_at from (offset + o))
 
--- no byte at another place changes
+-- a copy changes no byte outside the places of the copied range in the destination's span
 abbrev pub OtherBytesStay : Type 0
 OtherBytesStay = (from into : List ℕ) (offset len : ℕ) (bytes : Place → ℕ) (place : Place)
     → ((o : ℕ) → o < len → place ≢ place_at into (offset + o)) → with_copied from into offset len bytes place ≡ bytes place
 
--- no two virtual pages of the source are one, as in a sound table
+-- the virtual pages of the source are all different, as in a sound table
 abbrev pub ArePagesApart : Sides → Type 0
 ArePagesApart sides = (i j : ℕ) → i < page_count sides.source → j < page_count sides.source → source_page sides i ≡ source_page sides j → i ≡ j
 
--- the virtual pages of the source are read-only where the formula on the progress says so
+-- a virtual page of the source is read-only if and only if `is_protected` is true for the page at this progress
 abbrev pub AreProtected : Sides → Progress → Under → Type 0
 AreProtected sides progress under = (j : ℕ) → j < page_count sides.source
     → (under.targets (source_page sides j)).read_only ≡ is_protected (page_count sides.source) (slots_of sides.source.class) progress j
 
--- after each step the read-only pages are those of the formula for the progress after it
+-- if the source's virtual pages are all different and `AreProtected` holds before a step, `AreProtected` holds after
+-- the step at the new progress
 abbrev pub StepsProtect : Type 0
 StepsProtect = (sides : Sides) (d : ℕ) (under : Under) → ArePagesApart sides → AreProtected sides (Made d) under
     → AreProtected sides (Made (d + 1)) (step_effect sides (Made d) under)
 
--- so does each unprotect of a cancelled mesh
+-- if the source's virtual pages are all different and `AreProtected` holds before an unprotect of a cancelled mesh,
+-- `AreProtected` holds after the unprotect at the new progress
 abbrev pub UnwindingProtects : Type 0
 UnwindingProtects = (sides : Sides) (q u : ℕ) (under : Under) → ArePagesApart sides → q ≤ page_count sides.source → u < q
     → AreProtected sides (Unwinding q u) under → AreProtected sides (Unwinding q (u + 1)) (step_effect sides (Unwinding q u) under)
 
--- no step changes the protection of a page that is not the source's
+-- no step of a running mesh changes the protection of a page that isn't a page of the source
 abbrev pub OthersKeepProtection : Type 0
 OthersKeepProtection = (sides : Sides) (progress : Progress) (under : Under) (v : ℕ) → IsWithinSteps sides.source progress
     → ((j : ℕ) → j < page_count sides.source → v ≢ source_page sides j)

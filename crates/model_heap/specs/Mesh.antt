@@ -1,6 +1,6 @@
--- Meshing: two groups of one class put on one physical span, step by step. Protecting, copying and remapping are those
--- of the publication (Powers, Tench, Berger, McGregor, "Mesh", 2019); the order of the steps and all the rest are this
--- project's own.
+-- Meshing: how two groups of one class are put on one physical span, step by step. Protecting, copying and remapping
+-- follow the publication (Powers, Tench, Berger, McGregor, "Mesh", 2019). The order of the steps and everything else
+-- are this project's own choice.
 use Rattle.std.specs.Prelude.{ℕ, ◌+◌, ◌-◌, ◌*◌, ◌/◌, Bool, true, false, ◌&&◌, ◌||◌, not, if◌then◌else◌, nat_eq, nat_le, nat_lt, min, List, [], ◌∷◌, ◌++◌, Option, Some, None, Result, Ok, length, map, filter, find}
 use Rattle.std.specs.List.{list_any, flat_map, range_with_len}
 use Rattle.model_words.specs.Classes.{pages_of, slots_of}
@@ -11,47 +11,47 @@ use Rattle.model_words.specs.declared.commands.StepKind.TheVariants.{Protect, Co
 use Rattle.model_words.specs.declared.refusals.Refusal.{Refusal}
 use Rattle.model_words.specs.declared.refusals.Refusal.TheVariants.{NoGroup, Same, Class, Busy, Overlap, Members, NoMesh, TooLate}
 
--- both slots have an object
+-- whether both slots have an object
 abbrev pub both_occupied : Option Slot → Option Slot → Bool
 both_occupied (Some x) (Some y) = true
 both_occupied x y = false
 
--- some slot number is occupied in both
+-- whether some slot number is occupied in both groups
 abbrev pub do_overlap : List (Option Slot) → List (Option Slot) → Bool
 do_overlap [] ys = false
 do_overlap (x ∷ xs) [] = false
 do_overlap (x ∷ xs) (y ∷ ys) = both_occupied x y || do_overlap xs ys
 
--- the one of the two slots that has an object
+-- the first slot if it has an object, else the second slot
 abbrev pub either_slot : Option Slot → Option Slot → Option Slot
 either_slot (Some x) y = Some x
 either_slot None y = y
 
--- the slots of both groups, where no slot number is occupied in both
+-- the slots of two groups together, for groups that have no occupied slot number in common
 abbrev pub united : List (Option Slot) → List (Option Slot) → List (Option Slot)
 united [] ys = ys
 united (x ∷ xs) [] = x ∷ xs
 united (x ∷ xs) (y ∷ ys) = either_slot x y ∷ united xs ys
 
--- the virtual pages of a group's members
+-- the number of virtual pages that a group's members have
 abbrev pub page_count : Group → ℕ
 page_count group = length group.members * pages_of group.class
 
--- the steps of a whole mesh: protect, remap and unprotect each virtual page of the source, copy each slot, release each
--- physical page
+-- the number of steps of a whole mesh: each virtual page of the source is protected, remapped and unprotected, each
+-- slot is copied, and each physical page is released
 abbrev pub step_count : Group → ℕ
 step_count source = 3 * page_count source + slots_of source.class + pages_of source.class
 
--- the steps to come
+-- the number of steps left in a mesh from this source
 abbrev pub left_of : Group → Progress → ℕ
 left_of source (Made d) = step_count source - d
 left_of source (Unwinding q u) = q - u
 
--- some mesh is running
+-- whether any mesh is running, of whatever class
 abbrev pub any_mesh : Table → ℕ → Bool
 any_mesh t class = list_any (λ mesh. true) t.meshes
 
--- a mesh of the class is running
+-- whether a mesh of the class is running
 abbrev pub mesh_of_class : Table → ℕ → Bool
 mesh_of_class t class = list_any (λ mesh. nat_eq mesh.class class) t.meshes
 
@@ -60,7 +60,7 @@ pub record Pair : Type 0 where
   pub source : Group
   pub destination : Group
 
--- the two groups of a mesh that may begin now, or the refusal; the caller passes the test of busy classes
+-- the two groups if a mesh of them may begin now, else the refusal. The caller passes the test for busy classes
 abbrev pub may_begin : (Table → ℕ → Bool) → Table → ℕ → ℕ → Result Pair Refusal
 may_begin busy t source destination =
     or_refuse NoGroup (group_of t source) >>= λ a. or_refuse NoGroup (group_of t destination) >>= λ b.
@@ -68,7 +68,7 @@ may_begin busy t source destination =
     refuse_if Busy (busy t a.class) >>= λ _. refuse_if Overlap (do_overlap a.slots b.slots) >>= λ _.
     refuse_if Members (nat_lt 8 (length a.members + length b.members)) >>= λ _. Ok (record { source = a; destination = b })
 
--- a mesh begun: the steps to come, and the table with it
+-- the result of `begin`: the number of steps of the new mesh and the table with this mesh, or the refusal
 abbrev pub begin : (Table → ℕ → Bool) → Table → ℕ → ℕ → Result Counted Refusal
 begin busy t source destination =
     may_begin busy t source destination >>= λ pair. Ok (record {
@@ -78,32 +78,32 @@ begin busy t source destination =
       };
     })
 
--- the group with the source's members after its own, and the objects of both
+-- the group with the source's members added after its own members, and with the objects of both groups
 abbrev pub merged_into : Group → Group → Group
 merged_into source group = record group { members = group.members ++ source.members; slots = united group.slots source.slots }
 
--- the groups with the source merged into the destination
+-- the groups after the source is merged into the destination and removed
 abbrev pub merged : List Group → Group → ℕ → List Group
 merged groups source destination =
     filter (λ g. not (has_number source.number g)) (map (changed_at destination (merged_into source)) groups)
 
--- the mesh is that of the same two groups
+-- whether both meshes have the same source and the same destination
 abbrev pub is_mesh : Mesh → Mesh → Bool
 is_mesh x y = nat_eq x.source y.source && nat_eq x.destination y.destination
 
--- the mesh with another progress, where it is that one
+-- the mesh with another progress if it is the given mesh, else the unchanged mesh
 abbrev pub mesh_at : Mesh → Progress → Mesh → Mesh
 mesh_at this progress mesh = if is_mesh this mesh then record mesh { progress = progress } else mesh
 
--- the meshes with one at another progress
+-- the meshes after the given mesh has changed its progress
 abbrev pub with_progress : List Mesh → Mesh → Progress → List Mesh
 with_progress meshes this progress = map (mesh_at this progress) meshes
 
--- the meshes without one
+-- the meshes without the given mesh
 abbrev pub without_mesh : List Mesh → Mesh → List Mesh
 without_mesh meshes this = filter (λ mesh. not (is_mesh this mesh)) meshes
 
--- the kind of the step after d steps
+-- the kind of the next step when `d` steps are made
 abbrev pub kind_after : Group → ℕ → StepKind
 kind_after source d =
     if nat_lt d (page_count source) then Protect
@@ -111,18 +111,18 @@ kind_after source d =
     else (if nat_lt d (2 * page_count source + slots_of source.class) then Remap
     else (if nat_lt d (3 * page_count source + slots_of source.class) then Unprotect else Release)))
 
--- a step made: its kind, the steps to come, and the table after
+-- the result of a step: its kind, the number of steps left, and the table after the step
 pub record Stepped : Type 0 where
   pub kind : StepKind
   pub left : ℕ
   pub table : Table
 
--- the free pages after a step: a release gives one back
+-- the number of free pages after a step: a release frees one page
 abbrev pub free_after : StepKind → ℕ → ℕ
 free_after Release n = n + 1
 free_after kind n = n
 
--- the table after a step: the last one merges the groups and ends the mesh
+-- the table after the next step of a mesh that has made `d` steps; the last step merges the groups and ends the mesh
 abbrev pub table_after : Table → Mesh → Group → ℕ → Table
 table_after t mesh source d =
     if nat_le (step_count source) (d + 1)
@@ -136,13 +136,13 @@ table_after t mesh source d =
       meshes = with_progress t.meshes mesh (Made (d + 1));
     }
 
--- the table after an unprotect of a cancelled mesh: the last one ends it
+-- the table after an unprotect of a cancelled mesh; the last unprotect ends the mesh
 abbrev pub table_unwound : Table → Mesh → ℕ → ℕ → Table
 table_unwound t mesh q u =
     if nat_le q (u + 1) then record t { meshes = without_mesh t.meshes mesh }
     else record t { meshes = with_progress t.meshes mesh (Unwinding q (u + 1)) }
 
--- the next step of a mesh from this source
+-- the result of the next step of a mesh from this source
 abbrev pub stepped : Table → Mesh → Group → Progress → Stepped
 stepped t mesh source (Made d) =
     record { kind = kind_after source d; left = step_count source - (d + 1); table = table_after t mesh source d }
@@ -156,31 +156,33 @@ first_mesh t = find (λ mesh. true) t.meshes
 abbrev pub mesh_in : Table → ℕ → Option Mesh
 mesh_in t class = find (λ mesh. nat_eq mesh.class class) t.meshes
 
--- the next step of a mesh, if there is one; in a sound table the mesh's source is a group, so that only the first test
--- can refuse
+-- the result of the next step of a mesh, or the refusal if there is no mesh. In a sound table the mesh's source is a
+-- group, so only the first test can refuse
 abbrev pub step : Table → Option Mesh → Result Stepped Refusal
 step t which =
     or_refuse NoMesh which >>= λ mesh. or_refuse NoMesh (group_of t mesh.source) >>= λ source. Ok (stepped t mesh source mesh.progress)
 
--- a mesh cancelled before its first remap: as many unprotects are left as there were protects
+-- the result of a cancel before the first remap, when `q` pages are protected: `q` unprotects are left, or the mesh
+-- ends if `q` is 0
 abbrev pub cancelled_at : Table → Mesh → Group → ℕ → Counted
 cancelled_at t mesh source q =
     if nat_eq q 0 then record { count = 0; table = record t { meshes = without_mesh t.meshes mesh } }
     else record { count = q; table = record t { meshes = with_progress t.meshes mesh (Unwinding q 0) } }
 
--- a mesh cancelled, or refused once the first remap was made; a further cancel answers what is left and changes nothing
+-- the result of a cancel, or `TooLate` if a page was remapped. A second cancel returns the number of unprotects left
+-- and changes nothing
 abbrev pub cancelled : Table → Mesh → Group → Progress → Result Counted Refusal
 cancelled t mesh source (Made d) =
     refuse_if TooLate (nat_lt (page_count source + slots_of source.class) d) >>= λ _.
     Ok (cancelled_at t mesh source (min d (page_count source)))
 cancelled t mesh source (Unwinding q u) = Ok (record { count = q - u; table = t })
 
--- a cancel of a mesh, if there is one
+-- the result of a cancel of a mesh, or the refusal
 abbrev pub cancel : Table → Option Mesh → Result Counted Refusal
 cancel t which =
     or_refuse NoMesh which >>= λ mesh. or_refuse NoMesh (group_of t mesh.source) >>= λ source. cancelled t mesh source mesh.progress
 
--- a whole mesh: the pages given back, and the table with the groups merged
+-- the result of a whole mesh: the number of freed pages and the table with the groups merged, or the refusal
 abbrev pub mesh_whole : (Table → ℕ → Bool) → Table → ℕ → ℕ → Result Counted Refusal
 mesh_whole busy t source destination =
     may_begin busy t source destination >>= λ pair. Ok (record {
@@ -188,16 +190,16 @@ mesh_whole busy t source destination =
       table = record t { free_pages = t.free_pages + pages_of pair.source.class; groups = merged t.groups pair.source destination };
     })
 
--- page j of the source, of mp virtual pages and s slots, is read-only at this progress
+-- whether page `j` of a source with `mp` virtual pages and `s` slots is read-only at this progress
 abbrev pub is_protected : ℕ → ℕ → Progress → ℕ → Bool
 is_protected mp s (Made d) j = nat_lt j d && nat_lt j mp && nat_le d (j + 2 * mp + s)
 is_protected mp s (Unwinding q u) j = nat_le u j && nat_lt j q
 
--- the virtual pages of a group, member by member, ascending
+-- the virtual pages of a group, member by member, and ascending in each member
 abbrev pub virtual_pages : Group → List ℕ
 virtual_pages group = flat_map (λ v. range_with_len v (pages_of group.class)) group.members
 
--- the pages of a numbered list that pass the test of their number
+-- the pages of a list whose numbers pass the test; the first page has the number `j`
 abbrev pub pages_where : (ℕ → Bool) → ℕ → List ℕ → List ℕ
 pages_where test j [] = []
 pages_where test j (v ∷ vs) = if test j then v ∷ pages_where test (j + 1) vs else pages_where test (j + 1) vs
@@ -211,6 +213,6 @@ read_only_of (Some source) mesh = pages_where (is_protected (page_count source) 
 abbrev pub read_only_pages : Table → List ℕ
 read_only_pages t = flat_map (λ mesh. read_only_of (group_of t mesh.source) mesh) t.meshes
 
--- a store of `len` bytes to an address touches a read-only page
+-- whether a store of `len` bytes to an address touches a read-only page
 abbrev pub is_blocked : Table → ℕ → ℕ → Bool
 is_blocked t address len = list_any (λ x. list_any (nat_eq (x / 4096)) (read_only_pages t)) (range_with_len address len)

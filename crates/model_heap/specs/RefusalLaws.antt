@@ -1,4 +1,5 @@
--- When each refusal of a call on a table holds, whatever others do, and that of those that hold the lowest is answered.
+-- When each refusal of a call on a table holds, whether or not others hold, and that a call returns the lowest refusal
+-- that holds.
 use Rattle.std.specs.Prelude.{◌≡◌, ◌≢◌, ◌⊎◌, ℕ, ◌+◌, ◌-◌, ◌<◌, Bool, true, false, Some, None, find, length, slice_get}
 use Rattle.model_words.specs.Classes.{class_for, pages_of, slots_of}
 use Rattle.model_heap.specs.Mesh.{begin, cancel, mesh_whole, page_count, step}
@@ -8,13 +9,13 @@ use Rattle.model_words.specs.declared.refusals.Refusal.{Refusal}
 use Rattle.model_words.specs.declared.refusals.Refusal.TheVariants.{Zero, TooLarge, NoPages, NoAddresses, NoGroup, Same, Class, Busy, Overlap, Members, NoMesh, TooLate, NotEmpty}
 use Rattle.model_words.specs.Refusals.{IsRefusedBy}
 
--- the group of the number is there, and this holds of it
+-- the table has a group of the number, and `holds` is true of this group
 pub record OfGroup (t : Table) (n : ℕ) (holds : Group → Type 0) : Type 0 where
   pub group : Group
   pub there : group_of t n ≡ Some group
   pub is : holds group
 
--- both groups are there, and this holds of them
+-- the table has both groups, and `holds` is true of the two
 pub record OfBoth (t : Table) (source destination : ℕ) (holds : Group → Group → Type 0) : Type 0 where
   pub a : Group
   pub b : Group
@@ -30,7 +31,7 @@ pub record ShareSlot (a b : Group) : Type 0 where
   pub in_a : slice_get a.slots k ≡ Some (Some x)
   pub in_b : slice_get b.slots k ≡ Some (Some y)
 
--- when each refusal of a mesh of two groups holds, of a `begin` and of a whole mesh
+-- when each refusal of `begin` and of a whole mesh holds
 abbrev pub mesh_holds : (Table → ℕ → Bool) → Table → ℕ → ℕ → Refusal → Type 0
 mesh_holds busy t source destination NoGroup = (group_of t source ≡ None) ⊎ (group_of t destination ≡ None)
 mesh_holds busy t source destination Same = source ≡ destination
@@ -40,17 +41,17 @@ mesh_holds busy t source destination Overlap = OfBoth t source destination Share
 mesh_holds busy t source destination Members = OfBoth t source destination (λ a b. 8 < length a.members + length b.members)
 mesh_holds busy t source destination _ = ⊥
 
--- `begin` is refused by the lowest
+-- `begin` is refused with the lowest refusal that holds, and succeeds if and only if none holds
 abbrev pub BeginIsRefusedByLowest : Type 0
 BeginIsRefusedByLowest = (busy : Table → ℕ → Bool) (t : Table) (source destination : ℕ)
     → IsRefusedBy (mesh_holds busy t source destination) (begin busy t source destination)
 
--- so is a whole mesh
+-- a whole mesh is refused with the lowest refusal that holds, and succeeds if and only if none holds
 abbrev pub WholeIsRefusedByLowest : Type 0
 WholeIsRefusedByLowest = (busy : Table → ℕ → Bool) (t : Table) (source destination : ℕ)
     → IsRefusedBy (mesh_holds busy t source destination) (mesh_whole busy t source destination)
 
--- a running mesh has the group for its source or its destination
+-- the group of the number is the source or the destination of a running mesh
 pub record IsOfMesh (t : Table) (n : ℕ) : Type 0 where
   pub i : ℕ
   pub mesh : Mesh
@@ -63,14 +64,15 @@ pub record HasObject (group : Group) : Type 0 where
   pub slot : Slot
   pub filled : slice_get group.slots k ≡ Some (Some slot)
 
--- when each refusal of a sweep holds: it is busy by the group, in a running mesh, and not by its class
+-- when each refusal of a sweep holds. `Busy` holds if the group itself is in a running mesh, not if only another group
+-- of its class is
 abbrev pub sweep_holds : Table → ℕ → Refusal → Type 0
 sweep_holds t n NoGroup = group_of t n ≡ None
 sweep_holds t n Busy = IsOfMesh t n
 sweep_holds t n NotEmpty = OfGroup t n HasObject
 sweep_holds t n _ = ⊥
 
--- a sweep is refused by the lowest
+-- a sweep is refused with the lowest refusal that holds, and succeeds if and only if none holds
 abbrev pub SweepIsRefusedByLowest : Type 0
 SweepIsRefusedByLowest = (t : Table) (n : ℕ) → IsRefusedBy (sweep_holds t n) (sweep t n)
 
@@ -78,7 +80,8 @@ SweepIsRefusedByLowest = (t : Table) (n : ℕ) → IsRefusedBy (sweep_holds t n)
 abbrev pub HasNoMesh : Table → (Mesh → Bool) → Type 0
 HasNoMesh t test = (i : ℕ) (mesh : Mesh) → slice_get t.meshes i ≡ Some mesh → test mesh ≡ false
 
--- the first mesh that passes the test has made more steps than protect its pages and copy its slots
+-- the first mesh that passes the test has remapped a page: it isn't unwinding, and has made more steps than its
+-- protects and copies
 pub record IsTooLate (t : Table) (test : Mesh → Bool) : Type 0 where
   pub mesh : Mesh
   pub source : Group
@@ -88,7 +91,7 @@ pub record IsTooLate (t : Table) (test : Mesh → Bool) : Type 0 where
   pub made_is : mesh.progress ≡ Made made
   pub late : page_count source + slots_of source.class < made
 
--- when the one refusal of a step holds
+-- when `NoMesh`, the only refusal of a step, holds
 abbrev pub step_holds : Table → (Mesh → Bool) → Refusal → Type 0
 step_holds t test NoMesh = HasNoMesh t test
 step_holds t test _ = ⊥
@@ -99,24 +102,25 @@ cancel_holds t test NoMesh = HasNoMesh t test
 cancel_holds t test TooLate = IsTooLate t test
 cancel_holds t test _ = ⊥
 
--- a step of the first mesh that passes a test, as of any mesh or of one of a class, is refused by the lowest in a sound
--- table
+-- in a sound table, a step is refused with the lowest refusal that holds, and succeeds if and only if none holds. The
+-- step is of the first mesh that passes a test, such as of any mesh or of a class's mesh
 abbrev pub StepIsRefusedByLowest : Type 0
 StepIsRefusedByLowest = (t : Table) (test : Mesh → Bool) → IsSound t → IsRefusedBy (step_holds t test) (step t (find test t.meshes))
 
--- so is a cancel
+-- in a sound table, a cancel of the first mesh that passes a test is refused with the lowest refusal that holds, and
+-- succeeds if and only if none holds
 abbrev pub CancelIsRefusedByLowest : Type 0
 CancelIsRefusedByLowest = (t : Table) (test : Mesh → Bool) → IsSound t → IsRefusedBy (cancel_holds t test) (cancel t (find test t.meshes))
 
--- no group of the table is open to new objects of the class of the length, and this holds of the class
+-- no group of the table is open to objects of the length's class, and `holds` is true of this class
 pub record HasNoOpen (t : Table) (len : ℕ) (holds : ℕ → Type 0) : Type 0 where
   pub class : ℕ
   pub class_is : class_for len ≡ Some class
   pub none : (i : ℕ) (group : Group) → slice_get t.groups i ≡ Some group → is_open t class group ≡ false
   pub is : holds class
 
--- when each refusal of a new object holds: there are fewer free pages than a span has, and its last page would be above
--- the last address
+-- when each refusal of a new object holds. If no group is open, `NoPages` holds if a new span has more pages than are
+-- free, and `NoAddresses` if its last page would be above the last virtual page
 abbrev pub new_holds : Table → ℕ → Refusal → Type 0
 new_holds t len Zero = len ≡ 0
 new_holds t len TooLarge = 2048 < len
@@ -124,6 +128,6 @@ new_holds t len NoPages = HasNoOpen t len (λ class. t.free_pages < pages_of cla
 new_holds t len NoAddresses = HasNoOpen t len (λ class. 65535 < t.next_page + (pages_of class - 1))
 new_holds t len _ = ⊥
 
--- a new object is refused by the lowest
+-- a new object is refused with the lowest refusal that holds, and succeeds if and only if none holds
 abbrev pub NewIsRefusedByLowest : Type 0
 NewIsRefusedByLowest = (t : Table) (len word serial : ℕ) → IsRefusedBy (new_holds t len) (place_new t len word serial)

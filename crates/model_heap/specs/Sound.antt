@@ -1,4 +1,4 @@
--- What every table keeps, and what ties it to the plain memory.
+-- What always holds within a table, and what ties a table to the reference memory.
 use Rattle.std.specs.Prelude.{◌≡◌, ℕ, ◌+◌, ◌*◌, ◌<◌, ◌≤◌, false, nat_eq, if◌then◌else◌, List, [], ◌∷◌, Option, Some, IsSome, length, slice_get}
 use Rattle.std.specs.List.{flat_map}
 use Rattle.model_words.specs.Classes.{row_of, pages_of, slots_of}
@@ -15,13 +15,14 @@ times_in v (x ∷ xs) = (if nat_eq x v then 1 else 0) + times_in v xs
 abbrev pub all_pages : List Group → List ℕ
 all_pages groups = flat_map virtual_pages groups
 
--- the slot holds an object of the group: in one of its members, and no longer than its class
+-- the slot's object is in a member of the group, and has from 1 byte to the size of the group's class
 pub record IsSoundSlot (group : Group) (slot : Slot) : Type 0 where
   pub in_member : 1 ≤ times_in slot.member group.members
   pub some : 1 ≤ slot.len
   pub fits : slot.len ≤ group.class
 
--- the group is of a class of the table, with 1 to 8 members and a place for each slot
+-- the group's class is one of the ten size classes; the group has 1 to 8 members, an entry for each slot, and only
+-- sound objects
 pub record IsSoundGroup (group : Group) : Type 0 where
   pub class : IsSome (row_of group.class)
   pub some_member : 1 ≤ length group.members
@@ -34,18 +35,18 @@ abbrev pub AreSoundGroups : List Group → Type 0
 AreSoundGroups [] = Unit {0}
 AreSoundGroups (group ∷ groups) = IsSoundGroup group × AreSoundGroups groups
 
--- the numbers of the groups ascend from the first bound, and are below the second
+-- the numbers of the groups ascend, from the first bound or above, and are below the second bound
 abbrev pub AscendBetween : ℕ → List Group → ℕ → Type 0
 AscendBetween low [] high = low ≤ high
 AscendBetween low (group ∷ groups) high = (low ≤ group.number) × AscendBetween (group.number + 1) groups high
 
--- the progress is within the steps of a mesh from the source
+-- a mesh from the source can be at this progress, and has a step left
 abbrev pub IsWithinSteps : Group → Progress → Type 0
 IsWithinSteps source (Made d) = d < 3 * page_count source + slots_of source.class + pages_of source.class
 IsWithinSteps source (Unwinding q u) = (u < q) × (q ≤ page_count source)
 
--- the mesh is one of two different groups of its class, with no slot number occupied in both, and at most 8 members
--- together
+-- the mesh is of two different groups of its class, with no occupied slot number in common and at most 8 members
+-- together, and its progress is within its steps
 pub record IsSoundBetween (from into : Option Group) (mesh : Mesh) : Type 0 where
   pub source : Group
   pub destination : Group
@@ -58,7 +59,7 @@ pub record IsSoundBetween (from into : Option Group) (mesh : Mesh) : Type 0 wher
   pub few_members : length source.members + length destination.members ≤ 8
   pub within : IsWithinSteps source mesh.progress
 
--- the mesh is one of two groups of the table
+-- the mesh is sound, and both its groups are in the table
 abbrev pub IsSoundMesh : Table → Mesh → Type 0
 IsSoundMesh t mesh = IsSoundBetween (group_of t mesh.source) (group_of t mesh.destination) mesh
 
@@ -72,7 +73,7 @@ abbrev pub meshes_of : ℕ → List Mesh → ℕ
 meshes_of class [] = 0
 meshes_of class (mesh ∷ meshes) = (if nat_eq mesh.class class then 1 else 0) + meshes_of class meshes
 
--- a sound table
+-- a sound table: what always holds within a table
 pub record IsSound (t : Table) : Type 0 where
   pub some_page : 1 ≤ t.next_page
   pub few_pages : t.next_page ≤ 65536
@@ -83,7 +84,7 @@ pub record IsSound (t : Table) : Type 0 where
   pub meshes : AreSoundMeshes t t.meshes
   pub one_a_class : (class : ℕ) → meshes_of class t.meshes ≤ 1
 
--- the slot is number k in a group of the class
+-- some group of the class has this object in its slot `k`
 pub record IsFilled (t : Table) (class k : ℕ) (slot : Slot) : Type 0 where
   pub number : ℕ
   pub group : Group
@@ -110,7 +111,7 @@ pub record HasSlot (t : Table) (serial : ℕ) (object : Object) : Type 0 where
   pub address : object.address ≡ slot_address slot.member group.class k
   pub len : length object.bytes ≡ slot.len
 
--- table and memory name the same objects with the same addresses and lengths
+-- table and memory have the same objects, with the same addresses and lengths
 pub record IsTied (m : Memory) (t : Table) : Type 0 where
   pub slots : (number k : ℕ) (group : Group) (slot : Slot) → group_of t number ≡ Some group → slice_get group.slots k ≡ Some (Some slot)
       → IsLiveSlot m group.class k slot

@@ -6,26 +6,28 @@ use Rattle.model_words.specs.Words.{◌>>=◌, or_refuse, refuse_if}
 use Rattle.model_words.specs.declared.refusals.Refusal.{Refusal}
 use Rattle.model_words.specs.declared.refusals.Refusal.TheVariants.{Zero, TooLarge, NoPages, NoAddresses, NoGroup, Busy, NotEmpty}
 
--- an object in a slot: the member that it is an address of, by the member's first virtual page, its serial and its
--- length
+-- an object in a slot: the member that holds the object's address (by the member's first virtual page), the serial and
+-- the length
 pub record Slot : Type 0 where
   pub member : ℕ
   pub serial : ℕ
   pub len : ℕ
 
--- a group: its number, its class by size, its members by their first virtual pages, and the content of each slot
+-- a group: its number, its class (the slot size in bytes), the first virtual page of each member, and the content of
+-- each slot
 pub record Group : Type 0 where
   pub number : ℕ
   pub class : ℕ
   pub members : List ℕ
   pub slots : List (Option Slot)
 
--- how far a mesh has come: so many steps were made, or of so many unprotects of a cancelled mesh so many were made
+-- the progress of a mesh: the number of steps made or, for a cancelled mesh, the number of its unprotects and how many
+-- of them are made
 pub data Progress : Type 0 where
   Made : ℕ → Progress
   Unwinding : ℕ → ℕ → Progress
 
--- a running mesh, with the class of its two groups
+-- a running mesh: the class of its two groups, the numbers of its source and its destination, and its progress
 pub record Mesh : Type 0 where
   pub class : ℕ
   pub source : ℕ
@@ -41,19 +43,19 @@ pub record Table : Type 0 where
   pub meshes : List Mesh
   pub groups : List Group
 
--- the table of a heap of so many physical pages with no span
+-- the table of a heap with `pages` physical pages and no span
 abbrev pub empty_table : ℕ → Table
 empty_table pages = record { next_span = 0; next_page = 1; free_pages = pages; meshes = []; groups = [] }
 
--- the group has this number
+-- whether the group has this number
 abbrev pub has_number : ℕ → Group → Bool
 has_number n group = nat_eq group.number n
 
--- the group of a number
+-- the group of a number, if there is one
 abbrev pub group_of : Table → ℕ → Option Group
 group_of t n = find (has_number n) t.groups
 
--- the set of the group's occupied slots
+-- for each slot of the group, whether it is occupied
 abbrev pub occupied_of : Group → List Bool
 occupied_of group = map is_some group.slots
 
@@ -61,33 +63,34 @@ occupied_of group = map is_some group.slots
 abbrev pub object_count : Group → ℕ
 object_count group = count_by is_some group.slots
 
--- the group is source or destination of the mesh
+-- whether the group is the source or the destination of the mesh
 abbrev pub takes_part : ℕ → Mesh → Bool
 takes_part n mesh = nat_eq mesh.source n || nat_eq mesh.destination n
 
--- the group is in a running mesh
+-- whether the group is in a running mesh
 abbrev pub is_meshing : Table → ℕ → Bool
 is_meshing t n = list_any (takes_part n) t.meshes
 
--- the group takes new objects of the class: its number is not closed, and a slot is free
+-- whether the group is open to new objects of the class: it is of the class, its number is not closed, and a slot is
+-- free
 abbrev pub takes_objects : (ℕ → Bool) → ℕ → Group → Bool
 takes_objects closed class group = nat_eq group.class class && not (closed group.number) && nat_lt (object_count group) (length group.slots)
 
--- the same where the groups that are in a mesh are closed
+-- whether the group is open to new objects of the class, if the groups in running meshes are closed
 abbrev pub is_open : Table → ℕ → Group → Bool
 is_open t class group = takes_objects (is_meshing t) class group
 
--- the numbers of the group's free slots, ascending, from `k` on
+-- the numbers of the free slots, ascending; the first slot of the list has the number `k`
 abbrev pub free_from : ℕ → List (Option Slot) → List ℕ
 free_from k [] = []
 free_from k (None ∷ slots) = k ∷ free_from (k + 1) slots
 free_from k (Some slot ∷ slots) = free_from (k + 1) slots
 
--- the slot that a word picks among the free ones
+-- the number of the slot that a word picks among the group's free slots
 abbrev pub picked_slot : Group → ℕ → ℕ
 picked_slot group word = slice_index (free_from 0 group.slots) (word % length (free_from 0 group.slots))
 
--- the group's first member, which new objects are made in
+-- the group's first member, in which new objects are placed
 abbrev pub first_member : Group → ℕ
 first_member group = slice_index group.members 0
 
@@ -103,7 +106,7 @@ with_object_in k slot group = record group { slots = slice_set group.slots k (So
 abbrev pub emptied_at : ℕ → Group → Group
 emptied_at k group = record group { slots = slice_set group.slots k None }
 
--- the group of the number changed, and every other one as it was
+-- the group changed if it has the number, else the unchanged group
 abbrev pub changed_at : ℕ → (Group → Group) → Group → Group
 changed_at n change group = if has_number n group then change group else group
 
@@ -124,36 +127,36 @@ with_span t class = record t {
   groups = t.groups ++ fresh_group t.next_span class t.next_page ∷ [];
 }
 
--- where a new object is, and the table with it
+-- the address of a new object, and the table with this object
 pub record Placed : Type 0 where
   pub address : ℕ
   pub table : Table
 
--- the object put into the slot that the word picks in a group
+-- the address and the table after an object is put into the group's slot that the word picks
 abbrev pub placed_in : Table → Group → ℕ → ℕ → ℕ → Placed
 placed_in t group word serial len = record {
   address = slot_address (first_member group) group.class (picked_slot group word);
   table = with_group t group.number (with_object_in (picked_slot group word) (record { member = first_member group; serial = serial; len = len }));
 }
 
--- room for a new span of the class, or the refusal: pages first, then addresses
+-- `Ok` if there is room for a new span of the class, else the refusal. Free pages are tested first, then addresses
 abbrev pub room_for_span : Table → ℕ → Result (Unit {0}) Refusal
 room_for_span t class =
     refuse_if NoPages (nat_lt t.free_pages (pages_of class)) >>= λ _. refuse_if NoAddresses (nat_lt 65536 (t.next_page + pages_of class))
 
--- a new object of a class, in the lowest open group, or in a new span where there is none
+-- the result of placing a new object of a class in the given group, or in a new span if no group is given
 abbrev pub place_in : Option Group → Table → ℕ → ℕ → ℕ → ℕ → Result Placed Refusal
 place_in (Some group) t class word serial len = Ok (placed_in t group word serial len)
 place_in None t class word serial len =
     room_for_span t class >>= λ _. Ok (placed_in (with_span t class) (fresh_group t.next_span class t.next_page) word serial len)
 
--- a new object of `len` bytes
+-- the result of placing a new object of `len` bytes, or the refusal
 abbrev pub place_new : Table → ℕ → ℕ → ℕ → Result Placed Refusal
 place_new t len word serial =
     refuse_if Zero (nat_eq len 0) >>= λ _. or_refuse TooLarge (class_for len) >>= λ class.
     place_in (find (is_open t class) t.groups) t class word serial len
 
--- the slot emptied of the object of a serial
+-- the slot, emptied if its object has the serial
 abbrev pub emptied_of : ℕ → Option Slot → Option Slot
 emptied_of serial None = None
 emptied_of serial (Some slot) = if nat_eq slot.serial serial then None else Some slot
@@ -166,12 +169,12 @@ group_without serial group = record group { slots = map (emptied_of serial) grou
 abbrev pub without_object : Table → ℕ → Table
 without_object t serial = record t { groups = map (group_without serial) t.groups }
 
--- a count of pages, and the table after
+-- a number of pages or of steps, and the table after the call
 pub record Counted : Type 0 where
   pub count : ℕ
   pub table : Table
 
--- an empty group's pages given back
+-- the result of a sweep of an empty group: the number of freed pages and the table without the group, or the refusal
 abbrev pub sweep : Table → ℕ → Result Counted Refusal
 sweep t n =
     or_refuse NoGroup (group_of t n) >>= λ group. refuse_if Busy (is_meshing t n) >>= λ _.
@@ -180,12 +183,13 @@ sweep t n =
       table = record t { free_pages = t.free_pages + pages_of group.class; groups = filter (λ g. not (has_number n g)) t.groups };
     })
 
--- the length of the object in a slot
+-- the length of the object in a slot, or 0 if the slot is empty
 abbrev pub len_in : Option Slot → ℕ
 len_in None = 0
 len_in (Some slot) = slot.len
 
--- the five counts over a table of a heap of so many pages
+-- the five counts of a report: live objects and their bytes, mapped virtual pages, taken physical pages, and saved
+-- pages
 pub record Report : Type 0 where
   pub objects : ℕ
   pub bytes : ℕ
@@ -193,11 +197,11 @@ pub record Report : Type 0 where
   pub taken : ℕ
   pub saved : ℕ
 
--- the virtual pages that are mapped
+-- the number of mapped virtual pages
 abbrev pub mapped_count : Table → ℕ
 mapped_count t = sum_by (λ g. length g.members * pages_of g.class) t.groups
 
--- the report
+-- the report of a heap with `pages` physical pages
 abbrev pub report_of : ℕ → Table → Report
 report_of pages t = record {
   objects = sum_by object_count t.groups;

@@ -12,11 +12,11 @@ use Rattle.model_history.specs.Recorded.{Allocator, IsRecorded, Recorded, any_al
 abbrev pub counted : Memory → Recorded
 counted m = record { memory = m; serials = range_with_len 0 (next_serial m) }
 
--- the legal histories of this heap are those of the allocator with its bounds, and have the same ends
+-- a history is legal for this heap if and only if it is recorded for `this_heap`, and the ends agree
 abbrev pub ThisHeapIsACase : Type 0
 ThisHeapIsACase = (entries : List Entry) (end : Memory) → IsLegal entries end ↔ IsRecorded this_heap entries (counted end)
 
--- the cells of a command are below this number
+-- each cell of a command is below this number
 abbrev pub HasCells : ℕ → Command → Type 0
 HasCells cells (New cell len word) = cell < cells
 HasCells cells (Put cell off bytes) = cell < cells
@@ -28,16 +28,16 @@ HasCells cells (Peek address) = Unit {0}
 HasCells cells (Poke address byte) = Unit {0}
 HasCells cells (CopyBytes to to_off from from_off len) = (to < cells) × (from < cells)
 
--- a legal history of this heap is one that is taken of any allocator
+-- if the cells of all entries are below 256, a legal history of this heap is also one of any allocator
 abbrev pub HeapHistoriesAreTaken : Type 0
 HeapHistoriesAreTaken = (entries : List Entry) (end : Memory) → All (λ entry. HasCells 256 entry.command) entries → IsLegal entries end
     → (end' : Recorded) × IsRecorded any_allocator entries end'
 
--- a recorded history has one end
+-- a recorded history of an allocator has at most one end
 abbrev pub RecordedHaveOneEnd : Type 0
 RecordedHaveOneEnd = (allocator : Allocator) (entries : List Entry) (m n : Recorded) → IsRecorded allocator entries m → IsRecorded allocator entries n → m ≡ n
 
--- no two objects that were made have the same serial
+-- in a recorded history of any allocator, no two objects have the same serial
 abbrev pub SerialsAreGivenOnce : Type 0
 SerialsAreGivenOnce = (before between after : List Entry) (worker cell len word address worker' cell' len' word' address' serial : ℕ) (end : Recorded)
     → IsRecorded any_allocator (before ++ record { worker = worker; command = New cell len word; reply = Made serial address }

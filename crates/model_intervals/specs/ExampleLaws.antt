@@ -1,5 +1,5 @@
--- Examples of a few calls: which of them are a history, and which histories some order explains.
--- The old byte is 0, which a new object holds, and the new byte is 7, which `put_byte` stores.
+-- Examples of a few calls: which of them are a history, and which histories some order explains. The old byte is 0,
+-- which a new object contains, and the new byte is 7, which `put_byte` stores.
 use Rattle.std.specs.Prelude.{ℕ, List, [], ◌∷◌}
 use Rattle.model_words.specs.declared.commands.Command.{Command}
 use Rattle.model_words.specs.declared.commands.Command.TheVariants.{New, Put, Get, Free, Alias, Addr, Peek, Poke, Copy as CopyBytes}
@@ -22,29 +22,29 @@ IsUnexplained calls = IsHistory calls × (IsLinearizable calls → ⊥)
 abbrev pub call : ℕ → ℕ → ℕ → Command → Reply → Call
 call worker begin end command reply = record { begin = begin; end = end; entry = record { worker = worker; command = command; reply = reply } }
 
--- an object of two bytes is made in a cell, with this serial and this address
+-- a call that makes an object of two bytes in a cell, with this serial and this address
 abbrev pub new_object : ℕ → ℕ → ℕ → ℕ → ℕ → ℕ → Call
 new_object worker begin end cell serial address = call worker begin end (New cell 2 0) (Made serial address)
 
--- object 5 is made in cell 0 at 4096, from 0 to 1
+-- the call from 0 to 1 that makes object 5 in cell 0 at 4096
 abbrev pub first_object : Call
 first_object = new_object 0 0 1 0 5 4096
 
--- 7 is stored in the first byte of the object of cell 0
+-- a call that stores 7 in the first byte of the object of cell 0
 abbrev pub put_byte : ℕ → ℕ → ℕ → Call
 put_byte worker begin end = call worker begin end (Put 0 0 (record { items = 7 ∷ [] })) Done
 
--- the first byte of the object of cell 0 is loaded, and is this byte
+-- a call that loads the first byte of the object of cell 0, and returns this byte
 abbrev pub get_byte : ℕ → ℕ → ℕ → ℕ → Call
 get_byte worker begin end byte = call worker begin end (Get 0 0 1) (Bytes (record { items = byte ∷ [] }))
 
--- the object of cell 0 is freed
+-- a call that frees the object of cell 0
 abbrev pub free_first : ℕ → ℕ → ℕ → Call
 free_first worker begin end = call worker begin end (Free 0) Done
 
 -- ---- accesses that overlap, and accesses that don't
 
--- a `get` that begins after a `put` has begun, and ends before it ends
+-- a `get` that begins after a `put` has begun, and ends before the `put` ends
 abbrev pub get_during_put : ℕ → List Call
 get_during_put byte = first_object ∷ put_byte 0 2 5 ∷ get_byte 1 3 4 byte ∷ []
 
@@ -60,15 +60,15 @@ get_after_put byte = first_object ∷ put_byte 0 2 3 ∷ get_byte 1 4 5 byte ∷
 abbrev pub StaleReadsAreUnexplained : Type 0
 StaleReadsAreUnexplained = IsExplained (get_after_put 7) × IsUnexplained (get_after_put 0)
 
--- a `get` that begins at the moment at which a `put` ends
+-- a `get` that begins at the moment when a `put` ends
 abbrev pub get_at_end_of_put : ℕ → List Call
 get_at_end_of_put byte = first_object ∷ put_byte 0 2 3 ∷ get_byte 1 3 4 byte ∷ []
 
--- if one access ends at the moment at which the other begins, they may have either order
+-- if one access ends at the moment when another begins, the two may have either order
 abbrev pub TouchingAccessesHaveEitherOrder : Type 0
 TouchingAccessesHaveEitherOrder = IsExplained (get_at_end_of_put 0) × IsExplained (get_at_end_of_put 7)
 
--- calls of one worker are no exception: they may overlap, and may have either order if they touch
+-- calls of one worker are no exception: they may overlap, and if two of them touch, they may have either order
 abbrev pub WorkersAreNotCompared : Type 0
 WorkersAreNotCompared = IsExplained (first_object ∷ put_byte 0 2 5 ∷ get_byte 0 3 4 0 ∷ [])
     × IsExplained (first_object ∷ put_byte 0 2 3 ∷ get_byte 0 3 4 0 ∷ [])
@@ -77,37 +77,37 @@ WorkersAreNotCompared = IsExplained (first_object ∷ put_byte 0 2 5 ∷ get_byt
 abbrev pub two_gets_during_put : ℕ → ℕ → List Call
 two_gets_during_put byte later = first_object ∷ put_byte 0 2 7 ∷ get_byte 1 3 4 byte ∷ get_byte 1 5 6 later ∷ []
 
--- if the first of them returns the new byte, the second one may not return the old byte
+-- if the first `get` returns the new byte, the second may not return the old byte
 abbrev pub LaterReadsSeeTheNewByte : Type 0
 LaterReadsSeeTheNewByte = IsExplained (two_gets_during_put 0 0) × IsExplained (two_gets_during_put 0 7) × IsExplained (two_gets_during_put 7 7)
     × IsUnexplained (two_gets_during_put 7 0)
 
 -- ---- ranges of objects
 
--- the first object is freed from 4 to 6, and another object, whose range meets its range, is made from `begin` to `end`
+-- the first object is freed from 4 to 6, and another object with an overlapping range is made from `begin` to `end`
 abbrev pub range_taken_again : ℕ → ℕ → List Call
 range_taken_again begin end = first_object ∷ free_first 0 4 6 ∷ new_object 1 begin end 1 6 4097 ∷ []
 
--- the `free` begins no later than the other `new` ends
+-- if the ranges of two objects overlap, the `free` of the first begins no later than the `new` of the other ends
 abbrev pub MeetingRangesAreFreedFirst : Type 0
 MeetingRangesAreFreedFirst = IsExplained (range_taken_again 5 7) × IsExplained (range_taken_again 2 4) × IsUnexplained (range_taken_again 2 3)
 
--- another object of two bytes at this address; the first one is never freed
+-- another object of two bytes is made at this address, and the first object is never freed
 abbrev pub two_live_objects : ℕ → List Call
 two_live_objects address = first_object ∷ new_object 1 2 3 1 6 address ∷ []
 
--- ranges of live objects may touch on either side, and may not meet
+-- ranges of live objects may touch on either side, but may not overlap
 abbrev pub LiveRangesAreApart : Type 0
 LiveRangesAreApart = IsExplained (two_live_objects 4098) × IsExplained (two_live_objects 4094)
     × IsUnexplained (two_live_objects 4097) × IsUnexplained (two_live_objects 4095)
 
 -- ---- answers
 
--- another object at 8192 with this serial, made after the first one was freed
+-- another object at 8192 with this serial is made after the first object was freed
 abbrev pub serial_after_free : ℕ → List Call
 serial_after_free serial = first_object ∷ free_first 0 2 3 ∷ new_object 0 4 5 1 serial 8192 ∷ []
 
--- no serial is given twice, even if its first object was freed
+-- no serial is given twice, even if the first object that had it was freed
 abbrev pub SerialsAreGivenOnce : Type 0
 SerialsAreGivenOnce = IsExplained (serial_after_free 6) × IsUnexplained (serial_after_free 5)
 
@@ -132,7 +132,7 @@ abbrev pub PutsEndWithin : Type 0
 PutsEndWithin = IsExplained (one_access (Put 0 1 (record { items = 7 ∷ [] })) Done)
     × IsUnexplained (one_access (Put 0 1 (record { items = 7 ∷ 8 ∷ [] })) Done)
 
--- a `get` returns as many bytes as were asked for, and its range ends within its object
+-- a `get` returns exactly the number of bytes that were asked for, and its range ends within its object
 abbrev pub GetsReturnAll : Type 0
 GetsReturnAll = IsExplained (one_access (Get 0 0 2) (Bytes (record { items = 0 ∷ 0 ∷ [] })))
     × IsUnexplained (one_access (Get 0 0 2) (Bytes (record { items = 0 ∷ [] })))
@@ -149,7 +149,7 @@ AddrReturnsTheAddress = IsExplained (one_access (Addr 0) (At 4096)) × IsUnexpla
 abbrev pub put_begun_at : ℕ → List Call
 put_begun_at begin = first_object ∷ put_byte 1 begin 5 ∷ []
 
--- a call on an object begins after the `new` of its cell has ended, which made the object
+-- a call on an object begins after the end of the `new` that made the object in the call's cell
 abbrev pub CallsBeginAfterNew : Type 0
 CallsBeginAfterNew = IsHistory (put_begun_at 2) × (IsHistory (put_begun_at 1) → ⊥) × (IsHistory (put_begun_at 0) → ⊥)
     × (IsHistory (call 0 0 1 (New 0 2 0) (Refused NoPages) ∷ put_byte 1 2 5 ∷ []) → ⊥)
@@ -163,17 +163,17 @@ put_ended_at end = first_object ∷ put_byte 1 2 end ∷ free_first 0 4 6 ∷ []
 abbrev pub CallsEndBeforeFree : Type 0
 CallsEndBeforeFree = IsHistory (put_ended_at 3) × (IsHistory (put_ended_at 4) → ⊥) × (IsHistory (put_ended_at 5) → ⊥)
 
--- another object is made in this cell
+-- the first object is made in cell 0, and another object in the given cell
 abbrev pub second_object : ℕ → List Call
 second_object cell = first_object ∷ new_object 1 2 3 cell 6 8192 ∷ []
 
--- each `new` has its own cell, also if the first one's object was freed, or if the first one was refused
+-- each `new` has a cell of its own, even if the object of an earlier `new` was freed, or the earlier `new` was refused
 abbrev pub EachNewHasItsOwnCell : Type 0
 EachNewHasItsOwnCell = IsHistory (second_object 1) × (IsHistory (second_object 0) → ⊥)
     × (IsHistory (first_object ∷ free_first 0 2 3 ∷ new_object 0 4 5 0 6 8192 ∷ []) → ⊥)
     × (IsHistory (call 0 0 1 (New 0 2 0) (Refused NoPages) ∷ new_object 0 2 3 0 5 4096 ∷ []) → ⊥)
 
--- an object is freed once
+-- an object is freed at most once
 abbrev pub ObjectsAreFreedOnce : Type 0
 ObjectsAreFreedOnce = IsHistory (first_object ∷ free_first 0 2 3 ∷ []) × (IsHistory (first_object ∷ free_first 0 2 3 ∷ free_first 0 4 5 ∷ []) → ⊥)
 
@@ -185,7 +185,7 @@ OnlyNewIsRefused = IsHistory (new_answered 2 (Refused NoPages))
     × (IsHistory (one_access (Addr 0) (Refused Empty)) → ⊥)
     × (IsHistory (one_access (Free 0) (Refused Empty)) → ⊥)
 
--- an `alias`, and a command on an address or on two objects, is no call of a history
+-- a history contains no `alias`, and no command on an address or on two objects
 abbrev pub CallsNameOneObject : Type 0
 CallsNameOneObject = (IsHistory (one_access (Alias 0 0) Done) → ⊥) × (IsHistory (one_access (Peek 4096) (Byte 0)) → ⊥)
     × (IsHistory (one_access (Poke 4096 7) Done) → ⊥) × (IsHistory (one_access (CopyBytes 0 0 0 1 1) Done) → ⊥)

@@ -5,18 +5,18 @@ use Rattle.std.specs.List.Sorted.{IsPermutation}
 use Rattle.model_history.specs.Recorded.{IsRecorded, Recorded, any_allocator}
 use Rattle.model_memory.specs.Plain.{Entry}
 
--- a call: when it began, when it ended, and what was answered to which command of whom
+-- a call: when it began, when it ended, and its entry: worker, command and reply
 pub record Call : Type 0 where
   pub begin : ℕ
   pub end : ℕ
   pub entry : Entry
 
--- no call comes after one that began after it ended
+-- if call A ended before call B began, A isn't behind B in the order
 abbrev pub RespectsTime : List Call → Type 0
 RespectsTime order = AllPairs (λ front back. back.end < front.begin → ⊥) order
 
--- an order of effect that explains calls: it has exactly these calls, each once, a call that ended before another began
--- comes before it, and it is a legal history
+-- an order of effect that explains calls: it has exactly these calls, each once, and is a legal history of any
+-- allocator. If call A ended before call B began, A isn't behind B
 pub record Explains (calls order : List Call) : Type 0 where
   pub same : IsPermutation order calls
   pub in_time : RespectsTime order

@@ -1,5 +1,5 @@
--- What a history of overlapping calls is: calls that each name one object by its cell, between its making and its end.
--- This project's own choice.
+-- What a history of overlapping calls is: each call names one object by its cell, between the object's creation and its
+-- end. This project's own choice.
 use Rattle.std.specs.Prelude.{◌≡◌, ◌≢◌, ℕ, ◌<◌, ◌≤◌, List, Some, slice_get}
 use Rattle.std.specs.List.{All}
 use Rattle.model_history.specs.Recorded.{many_cells}
@@ -9,7 +9,7 @@ use Rattle.model_words.specs.declared.commands.Reply.{Reply}
 use Rattle.model_words.specs.declared.commands.Reply.TheVariants.{Object as Made, Done, Bytes, At, Refused}
 use Rattle.model_intervals.specs.Intervals.{Call}
 
--- the cell that a command names, of those that name one
+-- the cell that a command names: of two cells the one that is written to, and 0 if a command names no cell
 abbrev pub cell_of : Command → ℕ
 cell_of (New cell len word) = cell
 cell_of (Put cell off bytes) = cell
@@ -25,7 +25,7 @@ cell_of (CopyBytes to to_off from from_off len) = to
 abbrev pub cell_at : Call → ℕ
 cell_at call = cell_of call.entry.command
 
--- a command that names one object by its cell, with an answer that reports its effect: only a `new` may be refused
+-- a command names one object by its cell, and its answer reports its effect. Only a `new` may be refused
 abbrev pub HasEffect : Command → Reply → Type 0
 HasEffect (New cell len word) (Made serial address) = Unit {0}
 HasEffect (New cell len word) (Refused refusal) = Unit {0}
@@ -35,22 +35,22 @@ HasEffect (Free cell) Done = Unit {0}
 HasEffect (Addr cell) (At address) = Unit {0}
 HasEffect command reply = ⊥
 
--- the call is a `new`, whatever it answers
+-- the command is a `new`, whatever its answer
 abbrev pub IsNew : Command → Type 0
 IsNew (New cell len word) = Unit {0}
 IsNew command = ⊥
 
--- the call made an object
+-- the command made an object
 abbrev pub MakesOne : Command → Reply → Type 0
 MakesOne (New cell len word) (Made serial address) = Unit {0}
 MakesOne command reply = ⊥
 
--- the call is a `free`
+-- the command is a `free`
 abbrev pub IsFree : Command → Type 0
 IsFree (Free cell) = Unit {0}
 IsFree command = ⊥
 
--- at this place is this call
+-- this call is at this place of the list
 abbrev pub IsAt : List Call → ℕ → Call → Type 0
 IsAt calls place call = slice_get calls place ≡ Some call
 
@@ -63,8 +63,9 @@ pub record IsMadeBefore (calls : List Call) (cell moment : ℕ) : Type 0 where
   pub names : cell_at call ≡ cell
   pub ended : call.end < moment
 
--- calls that overlap: each takes time and names one object, each `new` has a cell of its own, and a call on an object
--- begins after its `new` has ended, and ends before its `free` begins
+-- a history of calls that may overlap. No call ends before it begins, each names one object by a cell below 2^32, and
+-- each `new` has a cell of its own. A call on an object begins after the object's `new` has ended, and ends before its
+-- `free` begins
 pub record IsHistory (calls : List Call) : Type 0 where
   pub take_time : All (λ call. call.begin ≤ call.end) calls
   pub have_effects : All (λ call. HasEffect call.entry.command call.entry.reply) calls

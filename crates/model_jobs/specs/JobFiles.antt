@@ -13,18 +13,18 @@ use Rattle.model_words.specs.declared.faults.TextFault.{TextFault}
 use Rattle.model_words.specs.declared.versions.Version.{Version}
 use Rattle.model_words.specs.declared.versions.Version.TheVariants.{One, Two}
 
--- the bytes are the same
+-- whether two lists of bytes are equal
 abbrev pub are_same : List ℕ → List ℕ → Bool
 are_same [] [] = true
 are_same [] (y ∷ ys) = false
 are_same (x ∷ xs) [] = false
 are_same (x ∷ xs) (y ∷ ys) = nat_eq x y && are_same xs ys
 
--- the number is from `least` to `most`
+-- whether the number is from `least` to `most`, both included
 abbrev pub is_between : ℕ → ℕ → ℕ → Bool
 is_between least most n = nat_le least n && nat_le n most
 
--- a number with one more decimal digit
+-- a number with one more decimal digit at its end
 abbrev pub with_decimal : ℕ → ℕ → ℕ
 with_decimal n byte = 10 * n + (byte - 48)
 
@@ -32,17 +32,18 @@ with_decimal n byte = 10 * n + (byte - 48)
 abbrev pub decimal_value : List ℕ → ℕ
 decimal_value digits = fold with_decimal 0 digits
 
--- a decimal field from `least` to `most`: it is the one spelling of its number
+-- the number in a decimal field. The field must be the number's one spelling, and the number must be from `least` to
+-- `most`
 abbrev pub number_in : ℕ → ℕ → List ℕ → Result ℕ FaultKind
 number_in least most field =
     if are_same (decimal (decimal_value field)) field && is_between least most (decimal_value field) then Ok (decimal_value field) else Err Number
 
--- the value of a hexadecimal digit in lower case
+-- the value of a hexadecimal digit in lower case, or none for another byte
 abbrev pub hex_value : ℕ → Option ℕ
 hex_value byte =
     if is_between 48 57 byte then Some (byte - 48) else (if is_between 97 102 byte then Some (byte - 87) else None)
 
--- a number with one more hexadecimal digit
+-- a number with one more hexadecimal digit at its end
 abbrev pub with_hex : ℕ → ℕ → ℕ
 with_hex n byte = 16 * n + (if nat_lt byte 97 then byte - 48 else byte - 87)
 
@@ -50,90 +51,91 @@ with_hex n byte = 16 * n + (if nat_lt byte 97 then byte - 48 else byte - 87)
 abbrev pub hex_number : List ℕ → ℕ
 hex_number digits = fold with_hex 0 digits
 
--- an address: it is the one spelling of its number
+-- the address in a hexadecimal field. The field must be the address's one spelling, and the address must be at most
+-- 268435455
 abbrev pub address_in : List ℕ → Result ℕ FaultKind
 address_in field =
     if are_same (address_text (hex_number field)) field && nat_le (hex_number field) 268435455 then Ok (hex_number field) else Err Number
 
--- the byte of two hexadecimal digits
+-- the byte that two hexadecimal digits spell
 abbrev pub byte_from : ℕ → ℕ → Result ℕ FaultKind
 byte_from high low = or_refuse Hex (hex_value high) >>= λ h. or_refuse Hex (hex_value low) >>= λ l. Ok (16 * h + l)
 
--- the bytes of hexadecimal digits, two each
+-- the bytes that hexadecimal digits spell, two digits each
 abbrev pub bytes_from : List ℕ → Result (List ℕ) FaultKind
 bytes_from [] = Ok []
 bytes_from (high ∷ []) = Err Hex
 bytes_from (high ∷ low ∷ digits) = byte_from high low >>= λ byte. bytes_from digits >>= λ bytes. Ok (byte ∷ bytes)
 
--- a field of 1 to 32 bytes
+-- the bytes in a hexadecimal field: 1 to 32 of them
 abbrev pub bytes_in : List ℕ → Result (List ℕ) FaultKind
 bytes_in field = bytes_from field >>= λ bytes. refuse_if Hex (not (is_between 1 32 (length bytes))) >>= λ _. Ok bytes
 
--- a field of one byte
+-- the byte in a field of two hexadecimal digits
 abbrev pub byte_in : List ℕ → Result ℕ FaultKind
 byte_in (high ∷ low ∷ []) = byte_from high low
 byte_in field = Err Hex
 
--- a root cell
+-- the root cell in a field: 0 to 255
 abbrev pub cell_in : List ℕ → Result ℕ FaultKind
 cell_in field = number_in 0 255 field
 
--- a length, an offset or a group: any number up to 65535
+-- the length, offset or group in a field: any number up to 65535
 abbrev pub short_in : List ℕ → Result ℕ FaultKind
 short_in field = number_in 0 65535 field
 
--- a word of a search or of a `new`
+-- the word of a search or of a `new` in a field: any number below 2^64
 abbrev pub word_in : List ℕ → Result ℕ FaultKind
 word_in field = number_in 0 18446744073709551615 field
 
--- the size of a class
+-- the size of a class in a field: one of the sizes in the class table
 abbrev pub class_in : List ℕ → Result ℕ FaultKind
 class_in field = word_in field >>= λ size. or_refuse Number (row_of size) >>= λ row. Ok size
 
--- the fields of words, from left to right
+-- the words in these fields, from left to right
 abbrev pub words_in : List (List ℕ) → Result (List ℕ) FaultKind
 words_in [] = Ok []
 words_in (field ∷ fields) = word_in field >>= λ word. words_in fields >>= λ words. Ok (word ∷ words)
 
--- a line's fields after its first one, one of them
+-- the fields after a line's word, if there is exactly one
 abbrev pub one_field : List (List ℕ) → Result (List ℕ) FaultKind
 one_field (a ∷ []) = Ok a
 one_field fields = Err Word
 
--- two of them
+-- the fields after a line's word, if there are exactly two
 abbrev pub two_fields : List (List ℕ) → Result (List ℕ × List ℕ) FaultKind
 two_fields (a ∷ b ∷ []) = Ok (a, b)
 two_fields fields = Err Word
 
--- three of them
+-- the fields after a line's word, if there are exactly three
 abbrev pub three_fields : List (List ℕ) → Result (List ℕ × List ℕ × List ℕ) FaultKind
 three_fields (a ∷ b ∷ c ∷ []) = Ok (a, b, c)
 three_fields fields = Err Word
 
--- five of them
+-- the fields after a line's word, if there are exactly five
 abbrev pub five_fields : List (List ℕ) → Result (List ℕ × List ℕ × List ℕ × List ℕ × List ℕ) FaultKind
 five_fields (a ∷ b ∷ c ∷ d ∷ e ∷ []) = Ok (a, b, c, d, e)
 five_fields fields = Err Word
 
--- none of them
+-- success if no field follows a line's word
 abbrev pub no_field : List (List ℕ) → Result (Unit {0}) FaultKind
 no_field [] = Ok tt
 no_field (a ∷ fields) = Err Word
 
--- two of them and up to 32 more
+-- the fields after a line's word, if there are two and at most 32 more
 abbrev pub two_and_more : List (List ℕ) → Result (List ℕ × List ℕ × List (List ℕ)) FaultKind
 two_and_more (a ∷ b ∷ more) = refuse_if Word (nat_lt 32 (length more)) >>= λ _. Ok (a, b, more)
 two_and_more fields = Err Word
 
--- what the commands of a text may be: how it spells a cell, a length or an offset, and an address; and whether it has
--- the command `copy`
+-- the rules for the commands of a text: how a cell, a length or offset, and an address are read, and whether the
+-- command `copy` exists
 pub record CommandRules : Type 0 where
   pub cell : List ℕ → Result ℕ FaultKind
   pub size : List ℕ → Result ℕ FaultKind
   pub place : List ℕ → Result ℕ FaultKind
   pub has_copy : Bool
 
--- how many bytes are loaded or copied
+-- the number of bytes that a command loads or copies: 1 to 32
 abbrev pub count_in : List ℕ → Result ℕ FaultKind
 count_in field = number_in 1 32 field
 
@@ -179,7 +181,7 @@ copy_in rules fields =
     five_fields fields >>= λ f. rules.cell f.0 >>= λ to. rules.size f.1 >>= λ to_off. rules.cell f.2 >>= λ from.
     rules.size f.3 >>= λ from_off. count_in f.4 >>= λ len. Ok (CopyBytes to to_off from from_off len)
 
--- a command by its word
+-- the command with this word and these fields, under these rules
 abbrev pub ruled_command_in : CommandRules → List ℕ → List (List ℕ) → Result Command FaultKind
 ruled_command_in rules word fields =
     if are_same word (codes "new") then new_in rules fields
@@ -192,16 +194,16 @@ ruled_command_in rules word fields =
     else (if are_same word (codes "poke") then poke_in rules fields
     else (if are_same word (codes "copy") && rules.has_copy then copy_in rules fields else Err Word))))))))
 
--- the file is of version 2
+-- whether the file has version 2
 abbrev pub is_second : Version → Bool
 is_second One = false
 is_second Two = true
 
--- the rules of a job file
+-- the rules for the commands of a job file
 abbrev pub job_rules : Version → CommandRules
 job_rules version = record { cell = cell_in; size = short_in; place = address_in; has_copy = is_second version }
 
--- a command of a job file
+-- the command of a job file with this word and these fields
 abbrev pub command_in : Version → List ℕ → List (List ℕ) → Result Command FaultKind
 command_in version word fields = ruled_command_in (job_rules version) word fields
 
@@ -234,12 +236,12 @@ bare_in line fields = no_field fields >>= λ _. Ok line
 abbrev pub of_class_in : (ℕ → Line) → List (List ℕ) → Result Line FaultKind
 of_class_in line fields = one_field fields >>= λ f. class_in f >>= λ class. Ok (line class)
 
--- `step` or `cancel` in version 1, `step CLASS` or `cancel CLASS` in version 2
+-- `step` or `cancel`: without a field in version 1, with a field `CLASS` in version 2
 abbrev pub of_mesh_in : Version → Line → (ℕ → Line) → List (List ℕ) → Result Line FaultKind
 of_mesh_in One bare of_class fields = bare_in bare fields
 of_mesh_in Two bare of_class fields = of_class_in of_class fields
 
--- a line of the plan by its word
+-- the line of the plan with this word and these fields
 abbrev pub line_in : Version → ℕ → List ℕ → List (List ℕ) → Result Line FaultKind
 line_in version workers word fields =
     if are_same word (codes "run") then run_in workers fields
@@ -251,7 +253,7 @@ line_in version workers word fields =
     else (if are_same word (codes "sweep") then sweep_in fields
     else (if are_same word (codes "report") then bare_in MakeReport fields else Err Word)))))))
 
--- the place of a line in its text: which header line comes next, or in whose section the line is
+-- the position in a job's text: which header line comes next, or which section the next line is in
 pub data Section : Type 0 where
   AtVersion : Section
   AtPages : Section
@@ -262,7 +264,8 @@ pub data Section : Type 0 where
   InPlan : Section
   AtEnd : Section
 
--- a job as far as it was read: the finished scripts, and the one that is being read
+-- a partly read job: the section that was reached, the header's values, the finished scripts, the script that is being
+-- read, and the plan so far
 pub record Draft : Type 0 where
   pub section : Section
   pub version : Version
@@ -273,22 +276,23 @@ pub record Draft : Type 0 where
   pub script : List Command
   pub plan : List Line
 
--- nothing read
+-- the draft before anything is read
 abbrev pub blank_draft : Draft
 blank_draft =
     record { section = AtVersion; version = One; pages = 0; history = 0; workers = 0; finished = []; script = []; plan = [] }
 
--- the draft at another section, its script finished
+-- the draft moved to another section, with the script that was being read added to the finished ones
 abbrev pub script_closed : Draft → Section → Draft
 script_closed draft section =
     record draft { section = section; finished = draft.finished ++ draft.script ∷ []; script = [] }
 
--- a header line: its word and one number
+-- the number of a header line, which must be the wanted word and one number from `least` to `most`
 abbrev pub header_in : List ℕ → ℕ → ℕ → List ℕ → List (List ℕ) → Result ℕ FaultKind
 header_in wanted least most word fields =
     refuse_if Word (not (are_same word wanted)) >>= λ _. one_field fields >>= λ f. number_in least most f
 
--- a line in the section of a worker: the next worker's head, the plan's head, or a command
+-- the draft after a line in a worker's section: the next worker's head, the plan's head if this worker is the last, or
+-- a command
 abbrev pub script_line : Draft → ℕ → List ℕ → List (List ℕ) → Result Draft FaultKind
 script_line draft worker word fields =
     if are_same word (codes "worker") && nat_lt (worker + 1) draft.workers
@@ -297,17 +301,17 @@ script_line draft worker word fields =
     then (no_field fields >>= λ _. Ok (script_closed draft InPlan))
     else (command_in draft.version word fields >>= λ command. Ok (record draft { script = draft.script ++ command ∷ [] })))
 
--- a line in the plan: the end, or a line of the plan
+-- the draft after a line in the plan: the end, or a line of the plan
 abbrev pub plan_line : Draft → List ℕ → List (List ℕ) → Result Draft FaultKind
 plan_line draft word fields =
     if are_same word (codes "end") then (no_field fields >>= λ _. Ok (record draft { section = AtEnd }))
     else (line_in draft.version draft.workers word fields >>= λ line. Ok (record draft { plan = draft.plan ++ line ∷ [] }))
 
--- the version of a number from 1 to 2
+-- the version with this number, 1 or 2
 abbrev pub version_of : ℕ → Version
 version_of n = if nat_eq n 2 then Two else One
 
--- the fields of a line taken in a section
+-- the draft after a line with this word and these fields in a section
 abbrev pub take_in : Section → Draft → List ℕ → List (List ℕ) → Result Draft FaultKind
 take_in AtVersion draft word fields =
     header_in (codes "mesh") 1 2 word fields >>= λ n. Ok (record draft { section = AtPages; version = version_of n })
@@ -323,52 +327,54 @@ take_in (InScript worker) draft word fields = script_line draft worker word fiel
 take_in InPlan draft word fields = plan_line draft word fields
 take_in AtEnd draft word fields = Err Trailing
 
--- the byte is allowed in a line
+-- whether the byte is allowed in a line
 abbrev pub is_printable : ℕ → Bool
 is_printable byte = is_between 32 126 byte
 
--- the field is empty
+-- whether the list of bytes is empty
 abbrev pub is_empty : List ℕ → Bool
 is_empty [] = true
 is_empty (b ∷ bs) = false
 
--- the fields of a line taken
+-- the draft after a line with these fields, none of which may be empty
 abbrev pub take_fields : Draft → List (List ℕ) → Result Draft FaultKind
 take_fields draft [] = Err Word
 take_fields draft (word ∷ fields) =
     refuse_if Word (list_any is_empty (word ∷ fields)) >>= λ _. take_in draft.section draft word fields
 
--- a whole line taken
+-- the draft after a whole line of at most 1,024 bytes, all of them printable. Spaces separate the fields
 abbrev pub take_line : Draft → List ℕ → Result Draft FaultKind
 take_line draft line =
     refuse_if LongLine (nat_lt 1024 (length line)) >>= λ _. refuse_if Byte (not (list_all is_printable line)) >>= λ _.
     take_fields draft (slice_split (λ b. nat_eq b 32) line)
 
--- the fault at a line
+-- the fault of a kind at a line
 abbrev pub fault_at : ℕ → FaultKind → TextFault
 fault_at line kind = record { line = line; kind = kind }
 
--- the end was read
+-- whether the line `end` was read
 abbrev pub has_ended : Section → Bool
 has_ended AtEnd = true
 has_ended section = false
 
--- the job that a whole draft is
+-- the job that a complete draft describes
 abbrev pub job_of : Draft → Job
 job_of draft = record { version = draft.version; pages = draft.pages; history = draft.history; scripts = draft.finished; plan = draft.plan }
 
--- what follows the last line end: nothing, once the end was read
+-- the job, or the fault, after the last line end: if the line `end` was read, nothing may follow, and otherwise the
+-- text is faulty
 abbrev pub last_in : ℕ → Draft → List ℕ → Result Job TextFault
 last_in number draft rest =
     if has_ended draft.section then (if is_empty rest then Ok (job_of draft) else Err (fault_at number Trailing))
     else (if nat_lt 1024 (length rest) then Err (fault_at number LongLine) else Err (fault_at number Cut))
 
--- a step of reading: the draft, or the fault at this line
+-- the result of a step of reading, with its fault placed at this line
 abbrev pub or_fault : {A : Type 0} → ℕ → Result A FaultKind → Result A TextFault
 or_fault number (Ok x) = Ok x
 or_fault number (Err kind) = Err (fault_at number kind)
 
--- the lines from this number on, the last of them what follows the last line end
+-- the job that the lines from this number on complete, or their first fault. The last item is the text after the last
+-- line end
 abbrev pub lines_in : ℕ → Draft → List (List ℕ) → Result Job TextFault
 lines_in number draft [] = Err (fault_at number Cut)
 lines_in number draft (line ∷ []) = last_in number draft line
@@ -376,12 +382,12 @@ lines_in number draft (line ∷ next ∷ lines) =
     if has_ended draft.section then Err (fault_at number Trailing)
     else (or_fault number (take_line draft line) >>= λ draft'. lines_in (number + 1) draft' (next ∷ lines))
 
--- the job of a text, or its first fault
+-- the job that a text describes, or the text's first fault
 abbrev pub read_text : List ℕ → Result Job TextFault
 read_text bytes =
     refuse_if (fault_at 0 TooLong) (nat_lt 1048576 (length bytes)) >>= λ _. lines_in 1 blank_draft (slice_split (λ b. nat_eq b 10) bytes)
 
--- the ranges of a line of the plan, in a file of this version
+-- the numbers of a plan line are in their ranges, and a file of this version may have the line
 abbrev pub IsValidLine : Version → ℕ → Line → Type 0
 IsValidLine version workers (RunWorker worker) = worker < workers
 IsValidLine version workers (PairClass class t words) =
@@ -395,7 +401,7 @@ IsValidLine version workers (WholeMesh source destination) = (source ≤ 65535) 
 IsValidLine version workers (SweepGroup group) = group ≤ 65535
 IsValidLine version workers MakeReport = Unit {0}
 
--- the ranges of a command in a file of this version
+-- the numbers of a command are in their ranges, and a file of this version may have the command
 abbrev pub IsValidCommand : Version → Command → Type 0
 IsValidCommand version (New cell len word) = (cell ≤ 255) × (len ≤ 65535) × (word ≤ 18446744073709551615)
 IsValidCommand version (Put cell off bytes) =
@@ -409,7 +415,7 @@ IsValidCommand version (Poke address byte) = (address ≤ 268435455) × (byte �
 IsValidCommand version (CopyBytes to to_off from from_off len) =
     (version ≡ Two) × (to ≤ 255) × (to_off ≤ 65535) × (from ≤ 255) × (from_off ≤ 65535) × (1 ≤ len) × (len ≤ 32)
 
--- a job whose numbers are in their ranges
+-- the numbers, commands and plan lines of a job are in their ranges
 pub record IsValidJob (job : Job) : Type 0 where
   pub some_page : 1 ≤ job.pages
   pub most_pages : job.pages ≤ 4096
@@ -419,6 +425,6 @@ pub record IsValidJob (job : Job) : Type 0 where
   pub commands : All (λ script. All (IsValidCommand job.version) script) job.scripts
   pub lines : All (IsValidLine job.version (length job.scripts)) job.plan
 
--- what a file is replayed to: the output of its job, or its first fault
+-- the replay of a file: the output of its job, or the file's first fault
 abbrev pub replayed : List ℕ → Result (List ℕ) TextFault
 replayed bytes = read_text bytes >>= λ job. Ok (output job)

@@ -10,7 +10,7 @@ use Rattle.model_words.specs.declared.commands.Reply.{Reply}
 use Rattle.model_memory.specs.Seats.{commands_of}
 use Rattle.model_heap.specs.PageCounts.{AreCounted}
 
--- where table and memory are sound and tied, a command is answered as the plain memory may answer it
+-- if the table is sound and tied to the memory, a command is answered as the reference memory may answer it
 abbrev pub AnsweredIsStep : Type 0
 AnsweredIsStep = (m : Memory) (t : Table) (command : Command) → IsSound t → IsTied m t
     → PlainStep m command (answered m t command).reply (answered m t command).memory
@@ -21,15 +21,15 @@ pub record IsRunning (state : State) : Type 0 where
   pub tied : IsTied state.memory state.table
   pub legal : IsLegal state.entries state.memory
 
--- a job begins so
+-- `IsRunning` holds in the initial state of every job
 abbrev pub InitialIsRunning : Type 0
 InitialIsRunning = (job : Job) → IsRunning (initial_state job)
 
--- each line of a plan keeps it so
+-- if `IsRunning` holds before a line, it holds after the line
 abbrev pub AnswerKeepsRunning : Type 0
 AnswerKeepsRunning = (job : Job) (state : State) (line : Line) → IsRunning state → IsRunning (answer job state line).state
 
--- lines from a job's beginning on keep it so
+-- `IsRunning` holds after any lines from the initial state of a job on
 abbrev pub LinesKeepRunning : Type 0
 LinesKeepRunning = (job : Job) (lines : List Line) → IsRunning (state_after job (initial_state job) lines)
 
@@ -38,41 +38,42 @@ abbrev pub HistoryIsLegal : Type 0
 HistoryIsLegal = (job : Job) (lines : List Line)
     → IsLegal (state_after job (initial_state job) lines).entries (state_after job (initial_state job) lines).memory
 
--- what a worker was answered is the beginning of its script, and the rest is left of it
+-- after any lines, a worker's answered commands followed by the rest of its script are its whole script
 abbrev pub EntriesBeginScripts : Type 0
 EntriesBeginScripts = (job : Job) (lines : List Line) (worker : ℕ)
     → commands_of worker (state_after job (initial_state job) lines).entries ++ slice_index_or (state_after job (initial_state job) lines).scripts worker []
     ≡ slice_index_or job.scripts worker []
 
--- a reply that a worker was given
+-- a reply, and the worker that was given it
 pub record Given : Type 0 where
   pub worker : ℕ
   pub reply : Reply
 
--- what a line of a plan gave a worker: a reply, where it ran one and was answered so
+-- the reply that a line of a plan gave a worker: none unless the line ran a worker and was answered with a reply
 abbrev pub given_by : Line → Answer → List Given
 given_by (RunWorker worker) (Replied reply) = record { worker = worker; reply = reply } ∷ []
 given_by line answer = []
 
--- the replies that lines of a plan gave, in the plan's order
+-- the replies that lines of a plan gave workers, in the plan's order
 abbrev pub replies_given : List Line → List Answer → List Given
 replies_given (line ∷ lines) (answer ∷ answers) = given_by line answer ++ replies_given lines answers
 replies_given lines answers = []
 
--- the replies of entries, in their order
+-- the replies of entries with their workers, in the order of the entries
 abbrev pub replies_recorded : List Entry → List Given
 replies_recorded entries = map (λ entry. record { worker = entry.worker; reply = entry.reply }) entries
 
--- the replies among the answers to lines of a plan are those of the entries, each worker's and in the plan's order
+-- the replies among the answers to lines of a plan are the replies of the entries, with the same workers and in the
+-- same order
 abbrev pub RepliesAreRecorded : Type 0
 RepliesAreRecorded = (job : Job) (lines : List Line)
     → replies_given lines (answers_from job (initial_state job) lines) ≡ replies_recorded (state_after job (initial_state job) lines).entries
 
--- the table of a job keeps it after any lines
+-- after any lines, the free pages and the pages of all spans add up to the job's physical pages and the released pages
 abbrev pub JobsKeepCount : Type 0
 JobsKeepCount = (job : Job) (lines : List Line) → AreCounted job.pages (state_after job (initial_state job) lines).table
 
--- the saved and taken pages of a job's report add up to the mapped pages
+-- in the report after any lines of a job, saved and taken pages add up to the mapped pages
 abbrev pub ReportsAddUp : Type 0
 ReportsAddUp = (job : Job) (lines : List Line) → (report_of job.pages (state_after job (initial_state job) lines).table).saved
     + (report_of job.pages (state_after job (initial_state job) lines).table).taken ≡ (report_of job.pages (state_after job (initial_state job) lines).table).mapped

@@ -11,12 +11,12 @@ use Rattle.model_words.specs.Replies.{IsRepliedBy}
 use Rattle.model_heap.specs.RefusalLaws.{new_holds}
 use Rattle.model_memory.specs.RefusalLaws.{plain_holds}
 
--- when each refusal of a command holds, a new object's by the table
+-- when each refusal of a command holds: the table decides for a `new`, and the reference memory for any other command
 abbrev pub command_holds : Memory → Table → Command → Refusal → Type 0
 command_holds m t (New cell len word) = new_holds t len
 command_holds m t command = plain_holds m command
 
--- a command is answered with the lowest
+-- if refusals of a command hold, it is answered with the lowest, and otherwise it isn't refused
 abbrev pub AnswerIsLowest : Type 0
 AnswerIsLowest = (m : Memory) (t : Table) (command : Command) → IsRepliedBy (command_holds m t command) (answered m t command).reply
 

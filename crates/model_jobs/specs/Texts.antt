@@ -19,7 +19,8 @@ use Rattle.model_words.specs.declared.versions.Version.TheVariants.{One, Two}
 abbrev pub hex_digit : ℕ → ℕ
 hex_digit n = if nat_lt n 10 then 48 + n else 87 + n
 
--- the digits of a number after its first, by how many more there may be
+-- the hexadecimal digits of a number without a leading zero. The first argument limits how many digits may follow the
+-- first
 abbrev pub hex_from : ℕ → ℕ → List ℕ
 hex_from zero n = hex_digit (n % 16) ∷ []
 hex_from (suc more) n = if nat_lt n 16 then hex_digit n ∷ [] else hex_from more (n / 16) ++ hex_digit (n % 16) ∷ []
@@ -36,15 +37,15 @@ byte_text b = hex_digit (b / 16) ∷ hex_digit (b % 16) ∷ []
 abbrev pub bytes_text : List ℕ → List ℕ
 bytes_text bytes = flat_map byte_text bytes
 
--- a field after a space
+-- a field with the space before it
 abbrev pub field : List ℕ → List ℕ
 field text = 32 ∷ text
 
--- a decimal field after a space
+-- a decimal field with the space before it
 abbrev pub number_field : ℕ → List ℕ
 number_field n = field (decimal n)
 
--- a command's line, without its end
+-- a command's line, without its line end
 abbrev pub command_text : Command → List ℕ
 command_text (New cell len word) = codes "new" ++ number_field cell ++ number_field len ++ number_field word
 command_text (Put cell off bytes) = codes "put" ++ number_field cell ++ number_field off ++ field (bytes_text bytes.items)
@@ -57,7 +58,7 @@ command_text (Poke address byte) = codes "poke" ++ field (address_text address) 
 command_text (CopyBytes to to_off from from_off len) =
     codes "copy" ++ number_field to ++ number_field to_off ++ number_field from ++ number_field from_off ++ number_field len
 
--- a line of the plan, without its end
+-- the text of a plan line, without its line end
 abbrev pub line_text : Line → List ℕ
 line_text (RunWorker worker) = codes "run" ++ number_field worker
 line_text (PairClass class t words) = codes "pair" ++ number_field class ++ number_field t ++ flat_map number_field words
@@ -75,17 +76,17 @@ abbrev pub version_number : Version → ℕ
 version_number One = 1
 version_number Two = 2
 
--- a line with its end
+-- a line with its line end
 abbrev pub ended : List ℕ → List ℕ
 ended line = line ++ 10 ∷ []
 
--- the sections of the workers from this one on
+-- the lines of the workers' sections, numbered from `worker` on
 abbrev pub sections_from : ℕ → List (List Command) → List (List ℕ)
 sections_from worker [] = []
 sections_from worker (script ∷ scripts) =
     (codes "worker" ++ number_field worker) ∷ (map command_text script ++ sections_from (worker + 1) scripts)
 
--- the lines of a job, without their ends
+-- the lines of a job, without their line ends
 abbrev pub job_lines : Job → List (List ℕ)
 job_lines job =
     (codes "mesh" ++ number_field (version_number job.version)) ∷ (codes "pages" ++ number_field job.pages) ∷ (codes "history" ++ number_field job.history)
@@ -100,7 +101,7 @@ text job = flat_map ended (job_lines job)
 abbrev pub refusal_text : Refusal → List ℕ
 refusal_text refusal = codes "refused" ++ number_field (number_of refusal) ++ field (name_of refusal)
 
--- a reply's line, with addresses that are spelt so
+-- a reply's line, with addresses spelt by the given function
 abbrev pub told_with : (ℕ → List ℕ) → Reply → List ℕ
 told_with spelt (Made serial address) = codes "object" ++ number_field serial ++ codes " at" ++ field (spelt address)
 told_with spelt Done = codes "done"
@@ -121,11 +122,11 @@ kind_text Remap = codes "remap"
 kind_text Unprotect = codes "unprotect"
 kind_text Release = codes "release"
 
--- how many steps are left, after a word
+-- the word `left`, and how many steps are left
 abbrev pub left_text : ℕ → List ℕ
 left_text n = codes "left" ++ number_field n
 
--- a pair's field: source, colon, destination
+-- a pair's field with the space before it: source, colon, destination
 abbrev pub pair_text : Pairing → List ℕ
 pair_text pair = field (decimal pair.source ++ codes ":" ++ decimal pair.destination)
 
@@ -140,7 +141,7 @@ report_text report =
     codes "report objects" ++ number_field report.objects ++ codes " bytes" ++ number_field report.bytes ++ codes " mapped"
     ++ number_field report.mapped ++ codes " taken" ++ number_field report.taken ++ codes " saved" ++ number_field report.saved
 
--- an answer's line, without its end
+-- an answer's line, without its line end
 abbrev pub answer_text : Answer → List ℕ
 answer_text (Replied reply) = reply_text reply
 answer_text StoreBlocked = codes "blocked"

@@ -19,7 +19,7 @@ refusals =
 pub refusal_of : ℕ → Refusal
 refusal_of number = slice_index_or refusals (pred number) NotEmpty
 
--- a refusal is the one of its number
+-- `refusal_of` returns each refusal for its number
 pub refusal_back : (refusal : Refusal) → refusal_of (number_of refusal) ≡ refusal
 unfolding refusal_of
 refusal_back Zero = refl
@@ -61,7 +61,7 @@ command_of (tag ∷ a ∷ b ∷ d ∷ items) =
     else CopyBytes a b d (slice_index items 0) (slice_index items 1))))))))
 command_of _ = Free 0
 
--- a command is the one of its numbers
+-- `command_of` returns each command for its numbers
 pub command_back : (command : Command) → command_of (command_numbers command) ≡ command
 unfolding command_of command_numbers
 command_back (New cell len word) = refl
@@ -90,7 +90,7 @@ reply_of (tag ∷ a ∷ b ∷ items) =
     else (if nat_eq tag 3 then At a else (if nat_eq tag 4 then Byte a else Refused (refusal_of a)))))
 reply_of _ = Done
 
--- a reply is the one of its numbers
+-- `reply_of` returns each reply for its numbers
 pub reply_back : (reply : Reply) → reply_of (reply_numbers reply) ≡ reply
 unfolding reply_of reply_numbers
 reply_back (Made serial address) = refl

@@ -1,4 +1,4 @@
--- What a copy of the plain memory takes, and what it leaves.
+-- What a copy in the reference memory reads and writes, and what it doesn't change.
 use Rattle.std.specs.Prelude.{◌≡◌, ◌≢◌, ◌⊎◌, ℕ, ◌+◌, ◌<◌, ◌≤◌, Some, length, slice_index}
 use Rattle.model_memory.specs.Memory.{Memory, Object, next_serial, object_of}
 use Rattle.model_memory.specs.Plain.{Named, copied}
@@ -9,7 +9,7 @@ pub record MayCopy (m : Memory) (to : Named) (to_off : ℕ) (from : Named) (from
   pub fits : to_off + len ≤ length to.object.bytes
   pub has : from_off + len ≤ length from.object.bytes
 
--- the written range has the bytes that were read from before, and all else is as it was
+-- the written range has the bytes that the source's range had before the copy, and nothing else has changed
 pub record IsCopied (m n : Memory) (to : Named) (to_off : ℕ) (from : Named) (from_off len : ℕ) : Type 0 where
   pub object : Object
   pub live : object_of n to.serial ≡ Some object
@@ -21,7 +21,8 @@ pub record IsCopied (m n : Memory) (to : Named) (to_off : ℕ) (from : Named) (f
   pub roots : n.roots ≡ m.roots
   pub next : next_serial n ≡ next_serial m
 
--- a copy takes the bytes that were there before, from another object or from the same, and leaves all else
+-- if a copy's destination is live and both ranges are within their objects, the copy writes the bytes that the source's
+-- range had before, and changes nothing else. Source and destination may be one object
 abbrev pub CopyTakesOldBytes : Type 0
 CopyTakesOldBytes = (m : Memory) (to : Named) (to_off : ℕ) (from : Named) (from_off len : ℕ) → MayCopy m to to_off from from_off len
     → IsCopied m (copied m to to_off from from_off len) to to_off from from_off len

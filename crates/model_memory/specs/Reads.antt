@@ -1,4 +1,4 @@
--- Reads that are in no journal: the place of each in the history, and what is wrong with one that can't be there.
+-- Reads, which are in no journal: the place of each read in the history, and when a read is wrong.
 use Rattle.std.specs.Prelude.{◌≡◌, ℕ, suc, ◌<◌, Bool, true, false, ◌||◌, if◌then◌else◌, nat_eq, nat_lt, nat_le, List, [], ◌∷◌, ◌++◌, Option, Some, None, Ok, Err, Result, length, take, slice_get, slice_index_or}
 use Rattle.std.specs.List.{list_any}
 use Rattle.model_memory.specs.Memory.{Memory, empty_memory}
@@ -10,14 +10,14 @@ use Rattle.model_words.specs.declared.commands.Reply.{Reply}
 use Rattle.model_words.specs.declared.commands.Reply.TheVariants.{Object as Made, Refused}
 use Rattle.model_words.specs.declared.refusals.Refusal.{Refusal}
 
--- the command reads and changes nothing
+-- whether the command only reads
 abbrev pub is_read : Command → Bool
 is_read (Get cell off len) = true
 is_read (Addr cell) = true
 is_read (Peek addr) = true
 is_read command = false
 
--- what a seat keeps of a call: command, reply, and of a read the journal's length that it saw
+-- a call in a seat: the command, the reply and, if the command is a read, the length of the journal that the read saw
 pub record Kept : Type 0 where
   pub command : Command
   pub reply : Reply
@@ -27,22 +27,22 @@ pub record Kept : Type 0 where
 abbrev pub call_of : Kept → Call
 call_of kept = record { command = kept.command; reply = kept.reply }
 
--- the number that is there is this one
+-- whether there is a length, and it is `n`
 abbrev pub is_length : ℕ → Option ℕ → Bool
 is_length n None = false
 is_length n (Some seen) = nat_eq seen n
 
--- a recorded call before the calls, and a read left out
+-- the calls with this call before them, or without it if it saw a length, as reads do
 abbrev pub recorded_or : Option ℕ → Call → List Call → List Call
 recorded_or None call calls = call ∷ calls
 recorded_or (Some seen) call calls = calls
 
--- the calls that aren't reads
+-- the recorded calls: all calls but the reads, which saw a length
 abbrev pub recorded : List Kept → List Call
 recorded [] = []
 recorded (kept ∷ calls) = recorded_or kept.seen (call_of kept) (recorded calls)
 
--- a read's length before the lengths
+-- the lengths with this length before them, if there is one
 abbrev pub seen_or : Option ℕ → List ℕ → List ℕ
 seen_or None lengths = lengths
 seen_or (Some seen) lengths = seen ∷ lengths
@@ -52,40 +52,42 @@ abbrev pub lengths_seen : List Kept → List ℕ
 lengths_seen [] = []
 lengths_seen (kept ∷ calls) = seen_or kept.seen (lengths_seen calls)
 
--- the reads of a worker that saw `n` entries, in its order
+-- the reads of a worker that saw `n` entries, in the order of the worker's calls
 abbrev pub reads_at : ℕ → ℕ → List Kept → List Entry
 reads_at n worker [] = []
 reads_at n worker (kept ∷ calls) =
     if is_length n kept.seen then record { worker = worker; command = kept.command; reply = kept.reply } ∷ reads_at n worker calls
     else reads_at n worker calls
 
--- those of all seats from number `worker` on, the lower seats first
+-- the reads of all seats that saw `n` entries, the lower seats first; the first seat in the list has the number
+-- `worker`
 abbrev pub all_reads_at : ℕ → ℕ → List (List Kept) → List Entry
 all_reads_at n worker [] = []
 all_reads_at n worker (calls ∷ seats) = reads_at n worker calls ++ all_reads_at n (suc worker) seats
 
--- the journal's entries from index `n` on, before each the reads that saw all the entries before it
+-- the journal's entries from index `n` on, with the reads between them: each read comes after exactly the entries that
+-- it saw
 abbrev pub built_from : ℕ → List (List Kept) → List Entry → List Entry
 built_from n seats [] = all_reads_at n 0 seats
 built_from n seats (entry ∷ entries) = all_reads_at n 0 seats ++ entry ∷ built_from (suc n) seats entries
 
--- the history that journal and seats make
+-- the history built from the journal and the seats
 abbrev pub built : List (List Kept) → List Entry → List Entry
 built seats entries = built_from 0 seats entries
 
--- the indices of a worker's entries, counted from `k`
+-- the indices of a worker's entries; the first entry in the list has the index `k`
 abbrev pub places_from : ℕ → ℕ → List Entry → List ℕ
 places_from k worker [] = []
 places_from k worker (entry ∷ entries) =
     if nat_eq entry.worker worker then k ∷ places_from (suc k) worker entries else places_from (suc k) worker entries
 
--- the index that is there is below the length
+-- whether there is an index, and it is below the length
 abbrev pub is_passed : Option ℕ → ℕ → Bool
 is_passed None n = false
 is_passed (Some place) n = nat_lt place n
 
--- a read that saw `n` entries can't come after these calls of its seat: `n` is below the length that an earlier read
--- saw, or not above the index of an earlier recorded call, or above that of the next recorded call, or above the
+-- whether a read that saw `n` entries can't come after these calls of its seat: `n` is below the length that an earlier
+-- read saw, not above the index of an earlier recorded call, above the index of the next recorded call, or above the
 -- journal's length
 abbrev pub is_out_of_place : List ℕ → ℕ → List Kept → ℕ → Bool
 is_out_of_place places total before n =
@@ -94,36 +96,37 @@ is_out_of_place places total before n =
     || is_passed (slice_get places (length (recorded before))) n
     || nat_lt total n
 
--- the memory of a result, or else the memory before
+-- the memory of a result, or the memory before if the result is a refusal
 abbrev pub memory_or : Memory → Result (Reply × Memory) Refusal → Memory
 memory_or m (Ok x) = x.1
 memory_or m (Err refusal) = m
 
--- the memory after a `new` that was answered so
+-- the memory after a `new` with this reply
 abbrev pub made_by : Memory → ℕ → ℕ → Reply → Memory
 made_by m cell len (Made serial address) = made m cell len address
 made_by m cell len _ = m
 
--- the memory after an answered command
+-- the memory after a command with this reply
 abbrev pub left_by : Memory → Command → Reply → Memory
 left_by m (New cell len word) reply = made_by m cell len reply
 left_by m command reply = memory_or m (plain m 0 command)
 
--- the memory after answered commands
+-- the memory after the commands of the entries
 abbrev pub memory_after : Memory → List Entry → Memory
 memory_after m [] = m
 memory_after m (entry ∷ entries) = memory_after (left_by m entry.command entry.reply) entries
 
--- the reply of a result
+-- the reply of a result, or its refusal as a reply
 abbrev pub reply_in : Result (Reply × Memory) Refusal → Reply
 reply_in (Ok x) = x.0
 reply_in (Err refusal) = Refused refusal
 
--- what the plain memory answers to a read
+-- the reply of the reference memory to a read
 abbrev pub read_reply : Memory → Command → Reply
 read_reply m command = reply_in (plain m 0 command)
 
--- call `i` of a seat, where it is a read, is in its place, and was answered as the plain memory answers there
+-- if call `i` of a seat is a read, the call is in its place and has the reference memory's reply after the entries that
+-- the call saw
 abbrev pub IsRight : List Entry → List ℕ → List Kept → ℕ → Type 0
 IsRight entries places calls i = (kept : Kept) (n : ℕ) → slice_get calls i ≡ Some kept → kept.seen ≡ Some n
     → (is_out_of_place places (length entries) (take i calls) n ≡ false)
@@ -143,6 +146,6 @@ pub record ReadDiffers (seats : List (List Kept)) (entries : List Entry) (w i : 
 abbrev pub AreRight : List (List Kept) → List Entry → Type 0
 AreRight seats entries = (w i : ℕ) → IsRight entries (places_from 0 w entries) (kept_by seats w) i
 
--- only reads have seen a length
+-- if a call saw a length, its command is a read
 abbrev pub is_marked : Kept → Type 0
 is_marked kept = (n : ℕ) → kept.seen ≡ Some n → is_read kept.command ≡ true

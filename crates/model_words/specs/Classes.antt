@@ -1,14 +1,14 @@
--- The size classes. Sizes, pages and slots are this project's own choice.
+-- The size classes. The sizes, pages and slots are this project's own choice.
 use Rattle.std.specs.Prelude.{◌≡◌, ℕ, ◌*◌, ◌≤◌, nat_le, nat_eq, List, [], ◌∷◌, find, Option}
 use Rattle.std.specs.Option.{option_map_or, option_map}
 
--- a size class: the bytes of a slot, the pages of a span, the slots of a span
+-- a size class: the bytes of a slot, the pages of a span, and the slots of a span
 pub record Row : Type 0 where
   pub size : ℕ
   pub pages : ℕ
   pub slots : ℕ
 
--- one row of the table
+-- a row of the table, from its three numbers
 abbrev pub row : ℕ → ℕ → ℕ → Row
 row size pages slots = record { size = size; pages = pages; slots = slots }
 
@@ -16,19 +16,19 @@ row size pages slots = record { size = size; pages = pages; slots = slots }
 abbrev pub table : List Row
 table = row 16 1 256 ∷ row 32 1 128 ∷ row 64 1 64 ∷ row 128 1 32 ∷ row 256 1 16 ∷ row 384 3 32 ∷ row 512 1 8 ∷ row 1024 1 4 ∷ row 1536 3 8 ∷ row 2048 1 2 ∷ []
 
--- the row of the class of this size
+-- the row of the class with this slot size, if the table has one
 abbrev pub row_of : ℕ → Option Row
 row_of size = find (λ r. nat_eq r.size size) table
 
--- the pages of a span of the class of this size
+-- the pages of a span of the class with this slot size, or 0 if no class has this size
 unfoldable pub pages_of : ℕ → ℕ
 pages_of size = option_map_or (λ r. r.pages) (row_of size) 0
 
--- the slots of a span of the class of this size
+-- the slots of a span of the class with this slot size, or 0 if no class has this size
 unfoldable pub slots_of : ℕ → ℕ
 slots_of size = option_map_or (λ r. r.slots) (row_of size) 0
 
--- the class of a request of `len` bytes: the least one whose size is at least that
+-- the size of the class for a request of `len` bytes: the smallest class size that is at least `len`, if any
 abbrev pub class_for : ℕ → Option ℕ
 class_for len = option_map (λ r. r.size) (find (λ r. nat_le len r.size) table)
 

@@ -4,8 +4,8 @@ use Rattle.arrayvec.specs.ArrayVec.{array_vec_len}
 use Rattle.model_words.specs.declared.commands.Command.{Command}
 use Rattle.model_words.specs.declared.commands.Command.TheVariants.{New, Put, Get, Free, Alias, Addr, Peek, Poke, Copy as CopyBytes}
 
--- a command stores, loads or copies 1 to 32 bytes, where it does at all; that at most 32 are stored is a matter of its
--- type
+-- whether a command's lengths are in range: a `put` stores at least 1 byte, and a `get` or `copy` has 1 to 32 bytes.
+-- That a `put` stores at most 32 bytes follows from its type
 abbrev pub IsInRange : Command → Type 0
 IsInRange (New cell len word) = Unit {0}
 IsInRange (Put cell off bytes) = 1 ≤ array_vec_len bytes

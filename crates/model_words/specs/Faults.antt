@@ -3,7 +3,7 @@ use Rattle.std.specs.Prelude.{ℕ, List, codes}
 use Rattle.model_words.specs.declared.faults.FaultKind.{FaultKind}
 use Rattle.model_words.specs.declared.faults.FaultKind.TheVariants.{TooLong, Trailing, LongLine, Cut, Byte, Word, Number, Hex}
 
--- the name that a fault line prints
+-- the name of a kind of fault, as a fault line prints the kind
 abbrev pub kind_name_of : FaultKind → List ℕ
 kind_name_of TooLong = codes "TOO_LONG"
 kind_name_of Trailing = codes "TRAILING"

@@ -3,7 +3,8 @@ use Rattle.std.specs.Prelude.{◌≡◌, ◌↔◌, ◌≤◌, ◌-◌, Result, 
 use Rattle.model_words.specs.declared.refusals.Refusal.{Refusal}
 use Rattle.model_words.specs.declared.refusals.Refusal.TheVariants.{Zero, TooLarge, NoPages, NoAddresses, Empty, Freed, Outside, Stray, NoGroup, Same, Class, Busy, Overlap, Members, NoMesh, TooLate, NotEmpty}
 
--- the number that answer lines print; of several refusals that hold, the lowest is answered
+-- the number of a refusal, as answer lines print it. If several refusals hold, the answer is the one with the lowest
+-- number
 abbrev pub number_of : Refusal → ℕ
 number_of Zero = 1
 number_of TooLarge = 2
@@ -35,11 +36,12 @@ refusal_names =
 abbrev pub name_of : Refusal → List ℕ
 name_of refusal = get_or refusal_names (number_of refusal - 1) []
 
--- of the refusals that hold this one has the lowest number
+-- this refusal holds, and no refusal with a lower number holds
 abbrev pub IsLowest : (Refusal → Type 0) → Refusal → Type 0
 IsLowest holds refusal = holds refusal × ((other : Refusal) → holds other → number_of refusal ≤ number_of other)
 
--- the call is refused by exactly the lowest refusal that holds, and is not refused exactly where none holds
+-- the call is refused with a refusal if and only if that refusal is the lowest that holds, and succeeds if and only if
+-- none holds
 pub record IsRefusedBy {A : Type 0} (holds : Refusal → Type 0) (result : Result A Refusal) : Type 0 where
   pub refused : (refusal : Refusal) → (result ≡ Err refusal) ↔ IsLowest holds refusal
   pub done : ((x : A) × (result ≡ Ok x)) ↔ ((refusal : Refusal) → ¬ holds refusal)
