@@ -18,11 +18,11 @@ const SUMMARY: usize = 16;
 /// A set of numbers below 65,536.
 #[derive(Drop)]
 pub struct Bin {
-    // Number `n` is in the set where bit `n % 64` of word `n / 64` is set.
+    // Number `n` is in the set if bit `n % 64` of word `n / 64` is set.
     words: Vec<u64>,
-    // Bit `j % 64` of word `j / 64` is set where word `j` of the set isn't zero.
+    // Bit `j % 64` of word `j / 64` is set if word `j` of the set isn't zero.
     summary: [u64; SUMMARY],
-    // Bit `j` is set where word `j` of the summary isn't zero.
+    // Bit `j` is set if word `j` of the summary isn't zero.
     top: [u64; 1],
 }
 

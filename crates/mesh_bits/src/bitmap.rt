@@ -17,7 +17,7 @@ const WORDS: usize = 4;
 /// A set of numbers below a width of 1 to 256.
 #[derive(Drop)]
 pub struct Bits {
-    // Number `i` is in the set where bit `i % 64` of word `i / 64` is set. No bit is set from the width on.
+    // Number `i` is in the set if bit `i % 64` of word `i / 64` is set. No bit at the width or above is set.
     words: [u64; WORDS],
     width: u32,
 }

@@ -17,7 +17,7 @@ mod tests;
 /// chunks in which some byte was stored take memory.
 #[derive(Drop)]
 pub struct SparseBytes {
-    // How many bytes there are.
+    // The number of bytes of the object.
     len: u64,
     // The chunks in which bytes were stored, by number.
     chunks: BTreeMap<u64, Chunk>,

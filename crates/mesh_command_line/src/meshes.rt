@@ -9,7 +9,7 @@ pub(crate) const MOST_MESHES: usize = 10;
 /// Up to ten meshes, in the order in which they were asked for.
 #[derive(Clone, Copy, PartialEq, Eq)]
 pub struct Meshes {
-    // Entries from the count on are all of group 0 into group 0.
+    // The pairs at index `count` and above are unused: group 0 into group 0.
     pairs: [MeshPair; MOST_MESHES],
     count: usize,
     pub ghost fits: { count ≤ 10 },

@@ -28,7 +28,7 @@ pub(crate) const PROGRESS: &str = "progress";
 #[derive(Clone, Copy)]
 pub(crate) struct NumberOption {
     pub(crate) name: &'static str,
-    // The name in the help of the number.
+    // The name of the number in the help.
     pub(crate) value: &'static str,
     pub(crate) least: u64,
     pub(crate) most: u64,
@@ -151,7 +151,7 @@ pub(crate) const WITNESS: NumberOption = NumberOption {
 #[derive(Clone, Copy)]
 pub(crate) struct TextOption {
     pub(crate) name: &'static str,
-    // The name in the help of the text.
+    // The name of the text in the help.
     pub(crate) value: &'static str,
     pub(crate) help: &'static str,
 }

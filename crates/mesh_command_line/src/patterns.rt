@@ -7,7 +7,7 @@ pub(crate) const MOST_PATTERNS: usize = 10;
 /// Up to ten patterns, as texts, in the order in which they were given.
 #[derive(Clone, Copy)]
 pub struct Patterns<'a> {
-    // Entries from the count on are empty.
+    // The texts at index `count` and above are unused and empty.
     texts: [&'a str; MOST_PATTERNS],
     count: usize,
     pub ghost fits: { count ≤ 10 },

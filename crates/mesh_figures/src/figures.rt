@@ -16,9 +16,9 @@ use std::marker::Model;
 #[derive(Drop)]
 pub struct Figures {
     window: Window,
-    // How many calls were looked at.
+    // The number of samples so far.
     calls: u32,
-    // What is gathered of those that are measured.
+    // The sums and greatest values over the measured samples.
     measured: Measured,
 }
 

@@ -27,7 +27,7 @@ impl Maker for Book {
 /// The state of a book that a failed `New` must not change.
 #[derive(Drop)]
 struct Before {
-    // What a load of the cell is answered.
+    // The answer to a load of the object that the cell names.
     seen: Reply,
     report: Report,
     entries: usize,

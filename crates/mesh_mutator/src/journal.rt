@@ -15,7 +15,7 @@ use std::marker::Model;
 pub struct Journal {
     entries: Vec<PackedEntry>,
     bytes: Vec<u8>,
-    // How many entries it was made for.
+    // The capacity in entries.
     room: usize,
 }
 

@@ -12,7 +12,7 @@ use std::marker::Model;
 /// The set's memory depends on the number of ranges, not on the number of elements.
 #[derive(Drop)]
 pub struct NumberSet {
-    // The last number of each range, by its first.
+    // The last number of each range, by the range's first number.
     ranges: BTreeMap<u32, u32>,
 }
 

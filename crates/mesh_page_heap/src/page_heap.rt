@@ -44,7 +44,7 @@ pub struct PageHeap {
     spans: Spans,
     // The lowest virtual page that was never used.
     next_page: u32,
-    // The running meshes in the order of their beginning, at most one a class.
+    // The running meshes in the order in which they began, at most one for each class.
     meshes: ArrayVec<Running, MAX_MESHES>,
 }
 
@@ -237,7 +237,7 @@ impl PageHeap {
             bytes: totals.bytes,
             mapped: totals.mapped,
             taken,
-            // No more pages are taken than mapped.
+            // At most all mapped pages are taken.
             saved: totals.mapped.saturating_sub(taken),
         }
     }

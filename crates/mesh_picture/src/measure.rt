@@ -19,7 +19,7 @@ pub struct Measure {
     widest: u32,
     extents: Vec<Extent>,
     lines: Option<(u32, u32)>,
-    // The number of the line that is taken in next.
+    // The number of the line that is expected next.
     next: usize,
 }
 

@@ -45,7 +45,7 @@ pub struct Picture {
     row: usize,
     column: u32,
     y: u32,
-    // The number of the line that is taken in next.
+    // The number of the line that is expected next.
     next: usize,
 }
 

@@ -39,13 +39,13 @@ pub struct Placement {
     spans: Spans,
     // The lowest virtual page that was never used.
     next_page: u32,
-    // The physical pages of all groups together.
+    // The number of physical pages of all groups.
     taken_pages: u32,
     // The serial of the next object.
     next_serial: u32,
-    // The physical pages of the groups of each class.
+    // The number of physical pages of each class's groups.
     class_pages: ClassCounts,
-    // The objects of the groups of each class.
+    // The number of objects of each class.
     class_objects: ClassCounts,
 }
 

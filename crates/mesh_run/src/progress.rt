@@ -17,9 +17,9 @@ const SECONDS_BETWEEN: u64 = 1;
 pub struct Progress<'a, C: Clock, S: Sink> {
     clock: &'a C,
     sink: S,
-    // When it began, and when the last line was written; without a clock there is no progress.
+    // The moments of the beginning and of the last line. `None` if no line is ever written.
     times: Option<Times>,
-    // How many states the clock wasn't read for.
+    // The number of reports since the clock was last read.
     unread: u32,
 }
 

@@ -20,9 +20,9 @@ use std::marker::Model;
 #[derive(Drop)]
 pub struct Curves {
     window: Window,
-    // How many calls were looked at.
+    // The number of samples so far.
     calls: u32,
-    // What is gathered of those that are measured.
+    // The least and greatest values of the measured samples, by interval.
     intervals: Intervals,
 }
 

@@ -27,13 +27,13 @@ use std::marker::Model;
 ///
 /// Spans and groups are numbered in the order in which they are made, and no number is reused.
 pub struct Spans {
-    // Takes the memory of new spans.
+    // The allocator of new spans.
     alloc: Global,
-    // By number.
+    // The spans by number.
     spans: Vec<Extent>,
-    // By number, and found by their fullness.
+    // The groups by number and by fullness.
     groups: Groups,
-    // By virtual page the span that has it.
+    // The span of each virtual page.
     owners: Owners,
 }
 

@@ -8,9 +8,9 @@ use std::process::Abort;
 /// A call of the reference memory. A call names an object by a cell.
 #[derive(Clone, Copy)]
 enum PlainCall {
-    // Of a length, at an address.
+    // Cell, length in bytes, address.
     Make(u8, u32, u32),
-    // To an offset.
+    // Cell, offset, bytes.
     Put(u8, u32, &'static [u8]),
     // Cell, offset, number of bytes, at most 32.
     Get(u8, u32, u32),
@@ -29,7 +29,7 @@ enum PlainAnswer {
     // The serial of a new object.
     Made(u32),
     Done,
-    // How many bytes, and what they are, the first one highest.
+    // The number of bytes, and the bytes as a big-endian number.
     Bytes(usize, u64),
     At(u32),
     Byte(u8),

@@ -26,18 +26,18 @@ pub(crate) use mesher_answer;
 /// A call of a heap. A call names an object by its serial, and a class by its slot size in bytes.
 #[derive(Clone, Copy)]
 pub(crate) enum Call {
-    // Of a length, by a word.
+    // Length in bytes, word.
     New(u32, u64),
     // Object, offset, number of bytes.
     Read(u32, u32, u32),
-    // To an object's offset.
+    // Object, offset, bytes.
     Write(u32, u32, &'static [u8]),
     // Written object and offset, read object and offset, number of bytes.
     Copy(u32, u32, u32, u32, u32),
     Peek(u32),
     Poke(u32, u8),
     Free(u32),
-    // Of a source into a destination, as the other calls with two groups.
+    // Source and destination, as in the other calls with two groups.
     Begin(u32, u32),
     BeginAlone(u32, u32),
     Step(u32),
@@ -108,14 +108,14 @@ impl Call {
 pub(crate) enum Answer {
     // The serial and the address of a new object.
     Made(u32, u32),
-    // How many bytes, and what they are, the first one highest.
+    // The number of bytes, and the bytes as a big-endian number.
     Bytes(usize, u64),
     Done,
     Blocked,
-    // The steps to come.
+    // The number of steps left.
     Left(u32),
     Stepped(StepKind, u32),
-    // The pages that came free.
+    // The number of pages freed.
     Pages(u32),
     Runs(bool),
     // Objects, bytes, mapped, taken and saved pages.

@@ -13,9 +13,9 @@ struct Start {
     objects: u32,
     len: u32,
     slot: u32,
-    // Those of them that are freed then.
+    // The serials of the objects that are freed after all objects are made.
     freed: &'static [u32],
-    // The calls that are made then.
+    // The calls that are made last.
     calls: &'static [(Call, Answer)],
 }
 

@@ -174,7 +174,7 @@ const COUNT_BITS: u32 = 3;
 #[derive(Drop)]
 struct Arrivals {
     counts: AtomicU64,
-    // Whether there was any other arrival: by another actor, at another point, or with a size that is no class's.
+    // Whether an arrival was of another actor, at another point, or with a size that no class has.
     strange: AtomicBool,
 }
 
@@ -266,7 +266,7 @@ struct Meeting<'a, R> {
     rt: &'a R,
     first: AtomicBool,
     second: AtomicBool,
-    // Whether a searcher waited in vain.
+    // Whether a searcher gave up waiting.
     missed: AtomicBool,
 }
 

@@ -10,15 +10,15 @@ use std::process::Abort;
 /// A command.
 #[derive(Clone, Copy)]
 pub(crate) enum Call {
-    // A cell, and the length of its object.
+    // Cell, length in bytes.
     New(u8, u32),
-    // To an object's offset, 1 to 32 bytes.
+    // Cell, offset, 1 to 32 bytes.
     Put(u8, u32, &'static [u8]),
-    // From an object's offset, this number of bytes, 1 to 32.
+    // Cell, offset, number of bytes, 1 to 32.
     Get(u8, u32, u32),
     Free(u8),
     Alias(u8, u8),
-    // To an object's offset, from an object's offset, this number of bytes, 1 to 32.
+    // Written cell and offset, read cell and offset, number of bytes, 1 to 32.
     Copy(u8, u32, u8, u32, u32),
     Addr(u8),
     Peek(u32),

@@ -49,9 +49,9 @@ enum Usage {
     Mesher,
     // A store is blocked by a mesh.
     HeldBack,
-    // A seat calls more than the book has room for.
+    // A seat makes more calls than the journal has room for.
     Full,
-    // Each of two readers waits for the other one.
+    // Each of two readers waits for the other reader.
     Readers,
 }
 
@@ -92,9 +92,9 @@ impl Usage {
 /// The result of a finished book.
 #[derive(Drop)]
 struct Closed {
-    // How many entries its history has.
+    // The number of entries of the history.
     entries: usize,
-    // What its heap counts.
+    // The counts of the heap.
     report: Report,
 }
 
@@ -188,9 +188,9 @@ fn check(
 /// The book that a call of a test goes to.
 #[derive(Clone, Copy)]
 enum Asked {
-    // The one that is finished.
+    // The book that is finished.
     Own,
-    // Another one.
+    // The other book.
     Other,
 }
 
@@ -355,11 +355,11 @@ fn set_up(rt: &(impl Abort + Wait), shared: &Shared, seat: &mut Seat) -> Class {
 /// A call of a mesher.
 #[derive(Clone, Copy)]
 enum Meshing {
-    // Of a source into a destination.
+    // Source, destination.
     Begin(u32, u32),
     Step,
     Cancel,
-    // Of a group.
+    // Group.
     Sweep(u32),
 }
 

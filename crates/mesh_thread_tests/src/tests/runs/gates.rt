@@ -73,7 +73,7 @@ pub(crate) struct Holding<'a, R> {
     rt: &'a R,
     marks: &'a [Mark],
     holds: &'a [Hold],
-    // The first of two events wants the second to have been.
+    // The second event of a pair must occur before the first.
     orders: &'a [(Event, Event)],
     missed: AtomicBool,
 }

@@ -21,13 +21,13 @@ use std::thread::Threads;
 /// A part of a script.
 #[derive(Clone, Copy)]
 enum Part {
-    // Of each cell from the first up to the second, which has none, an object of this length.
+    // Makes an object of this length in each cell from the first up to, but not including, the second.
     Made(u8, u8, u32),
-    // The objects of these cells.
+    // Frees the objects of these cells.
     Freed(&'static [u8]),
-    // To the object of a cell, its first byte.
+    // Stores a byte at the beginning of the object of a cell.
     Stored(u8, u8),
-    // From the object of a cell, its first byte, this number of times.
+    // Loads the first byte of the object of a cell this number of times.
     Read(u8, u32),
 }
 
@@ -102,13 +102,13 @@ fn plan_of(rt: &impl AllocGlobal, rounds: u32, workers: u32, meshers: u32) -> Me
 
 /// A run of one or two scripts: the scripts, the stops, and the expected result.
 struct Course {
-    // Each script in its parts.
+    // The parts of each script.
     first: &'static [Part],
     second: Option<&'static [Part]>,
-    // What all has to be.
+    // The events that must occur.
     events: &'static [Event],
     holds: &'static [Hold],
-    // The first of two events wants the second to have been.
+    // The second event of a pair must occur before the first.
     orders: &'static [(Event, Event)],
     scale: Scale,
 }
@@ -116,9 +116,9 @@ struct Course {
 /// The sizes of a run.
 #[derive(Clone, Copy)]
 struct Scale {
-    // How many pages the arena has.
+    // The number of pages of the arena.
     pages: u32,
-    // How many entries the journal has room for.
+    // The capacity of the journal in entries.
     room: u32,
     // The plan: rounds, searchers, 1 to 16, and meshers, 1 to 10.
     rounds: u32,
@@ -300,16 +300,16 @@ fn keep_bytes(heap: &Heap) -> bool {
 /// The result of a run.
 #[derive(Drop)]
 struct Seen {
-    // How many entries of the history are the first script's, and how many the second one's.
+    // The number of entries of the first script in the history, and that of the second script.
     entries: (usize, usize),
-    // How many are refused for want of pages.
+    // The number of entries that are refused as `NoPages`.
     no_pages: usize,
-    // What the heap counts.
+    // The counts of the heap.
     report: Report,
-    // Whether those objects contain the bytes that `STORER` stores at the end of the run, and whether they do once no
-    // class takes a step.
+    // Whether the objects contain the bytes that `STORER` stores: at the end of the run, and after all meshes are
+    // finished.
     keeps_bytes: (bool, bool),
-    // How many steps all classes together still took.
+    // The number of steps that the meshes of all classes still took.
     steps_left: u32,
 }
 
