@@ -150,16 +150,16 @@ def write_tables():
     for row, name in NAMED.items():
         lines += [f"/// The file of the example `{row.parent.name}/{row.stem}`.",
                   f"pub const {name}_FILE: &str = {literal(file_text(row))};", "",
-                  "/// Its answers.",
+                  f"/// The expected answers of the example `{row.parent.name}/{row.stem}`.",
                   f"pub const {name}_ANSWERS: &str = {literal(row.with_suffix('.out').read_text())};", ""]
     for folder in sorted(folder for folder in ROWS.iterdir() if folder.is_dir() and folder.name not in UNTABLED):
         rows = sorted(row for row in folder.glob("*.job") if row.with_suffix(".out").exists())
         if rows:
-            doc = f"Name, file and answers of each example of {folder.name.replace('_', ' ')}."
+            doc = f"The examples of {folder.name.replace('_', ' ')}: the name, the file and the answers of each."
             lines += table(folder.name.upper(), doc, rows, ".out")
     faults = [row for row in sorted(ROWS.glob("*/*.job"))
               if row.with_suffix(".err").exists() and len(file_text(row)) < 1000]
-    lines += table("FAULTS", "Name, bytes and fault line of each short file that is no job.", faults, ".err")
+    lines += table("FAULTS", "The short files that are no job: the name, the bytes and the fault line of each.", faults, ".err")
     (TABLES / "src" / "memory" / "files.rt").write_text("\n".join(lines))
 
 

@@ -1,21 +1,21 @@
--- What an arena holds, and what its calls do, by places: a page's number and an offset in it.
+-- The pages of an arena, and the effects of its calls by page number and offset.
 use Rattle.std.specs.Prelude.{◌≡◌, ◌≢◌, ℕ, ◌+◌, ◌<◌, ◌≤◌, ◌++◌, Bool, false, List, [], Option, None, is_some, is_none, IsTrue, unwrap_or, map, length, replicate, take, drop, slice_index, slice_index_or, slice_range, count_by, position, refl}
 use Rattle.std.specs.List.{range_with_len}
 use Rattle.std.proofs.lemmas.List.FromFn.{length-map-range_with_len, get_or-map-range_with_len}
 
--- the pages in the order of their numbers, each its bytes or `None` where it is free
+-- the pages in the order of their numbers, each its bytes, or `None` if it is free
 abbrev pub Pages : Type 0
 Pages = List (Option (List ℕ))
 
--- a page's bytes, or `None` where it is free or past the last
+-- a page's bytes, or `None` if the page is free or past the last page
 abbrev pub content : Pages → ℕ → Option (List ℕ)
 content a p = slice_index_or a p None
 
--- a page's bytes, none where it is free
+-- a page's bytes, or no bytes if the page is free or past the last page
 abbrev pub bytes_of : Pages → ℕ → List ℕ
 bytes_of a p = unwrap_or (content a p) []
 
--- the number is one of a page that is taken
+-- whether the page is taken
 unfoldable pub is_taken : Pages → ℕ → Bool
 is_taken a p = is_some (content a p)
 
@@ -23,15 +23,15 @@ is_taken a p = is_some (content a p)
 abbrev pub IsTaken : Pages → ℕ → Type 0
 IsTaken a p = IsTrue (is_taken a p)
 
--- the byte at an offset of a page, 0 past the page's end and where the page is free
+-- the byte at an offset of a page, or 0 if the offset is past the page's end or the page is free
 unfoldable pub byte_at : Pages → ℕ → ℕ → ℕ
 byte_at a p o = slice_index (bytes_of a p) o
 
--- how many pages are free
+-- the number of free pages
 unfoldable pub free_count : Pages → ℕ
 free_count a = count_by is_none a
 
--- the lowest number of a free page
+-- the lowest number of a free page, or None if no page is free
 abbrev pub lowest_free : Pages → Option ℕ
 lowest_free a = position is_none a
 
@@ -43,7 +43,7 @@ blank_page = replicate 4096 0
 abbrev pub with_run : List ℕ → ℕ → List ℕ → List ℕ
 with_run page off run = take off page ++ run ++ drop (off + length run) page
 
--- a page's bytes after a part of another's was copied into it
+-- a page's bytes after a range of another page's bytes was copied into it
 abbrev pub with_copy : List ℕ → ℕ → List ℕ → ℕ → ℕ → List ℕ
 with_copy page off from from_off len = with_run page off (slice_range from from_off (from_off + len))
 
@@ -71,7 +71,7 @@ pub record Takes (old new : Pages) (page : ℕ) : Type 0 where
   pub fewer : free_count new + 1 ≡ free_count old
   pub same_length : length new ≡ length old
 
--- the taken page became free, and nothing else changed
+-- the taken page became free, and nothing else changed. Its bytes now read as 0
 pub record Gives (old new : Pages) (page : ℕ) : Type 0 where
   pub in_arena : page < length old
   pub was_taken : IsTaken old page

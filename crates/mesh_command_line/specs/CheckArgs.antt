@@ -1,4 +1,4 @@
--- The range of the number that `check` is asked for.
+-- The range of the number in the arguments of `check`.
 use Rattle.std.specs.Prelude.{◌≤◌, ℕ}
 
 -- the number is in its range

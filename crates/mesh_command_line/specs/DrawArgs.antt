@@ -1,4 +1,4 @@
--- The ranges of the numbers that `draw` is asked for.
+-- The ranges of the numbers in the arguments of `draw`.
 use Rattle.std.specs.Prelude.{◌≤◌, ℕ}
 
 -- the numbers are in their ranges

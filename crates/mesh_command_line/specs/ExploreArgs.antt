@@ -1,9 +1,9 @@
--- The ranges of what `explore` is asked for.
+-- The ranges of the arguments of `explore`.
 use Rattle.std.specs.Option.{ForSome}
 use Rattle.std.specs.Prelude.{◌≤◌, ℕ, Option}
 use Rattle.mesh_command_line.specs.declared.meshes.Meshes.{Meshes}
 
--- there is a mesh, at most as many as the type has room for, and the numbers are in their ranges
+-- there are 1 to 10 meshes, `cancel` is at most 1000 if it is given, and `states` is from 1 to 10000000
 pub record AreInRange (meshes : Meshes) (cancel : Option ℕ) (states : ℕ) : Type 0 where
   pub meshes_least : 1 ≤ meshes.count
   pub meshes_most : meshes.count ≤ 10

@@ -2,6 +2,6 @@
 use Rattle.std.specs.Prelude.{ℕ, List, map, take}
 use Rattle.mesh_command_line.specs.declared.patterns.Patterns.{Patterns}
 
--- the texts of the patterns in their order
+-- the texts of the patterns in the order given
 abbrev pub texts_of : Patterns → List (List ℕ)
 texts_of patterns = map (λ text. text.now) (take patterns.count patterns.texts)

@@ -1,7 +1,7 @@
--- The ranges of what `savings` is asked for.
+-- The ranges of the numbers in the arguments of `savings`.
 use Rattle.std.specs.Prelude.{◌≤◌, ℕ}
 
--- the numbers are in their ranges
+-- `every` and `from` are at least 1, `probe` is at most 64, and `from` is at most `to`
 pub record AreInRange (every probe from to : ℕ) : Type 0 where
   pub some_frees : 1 ≤ every
   pub few_tries : probe ≤ 64

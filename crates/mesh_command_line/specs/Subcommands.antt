@@ -6,7 +6,7 @@ use Rattle.mesh_command_line.specs.declared.options.Argument.{Argument}
 use Rattle.mesh_command_line.specs.declared.options.Argument.TheVariants.{Default, File, Flag, Meshes, Optional, Required, Text, Texts}
 use Rattle.mesh_command_line.specs.declared.options.Subcommand.{Subcommand}
 
--- the rule that is passed to `clap` for what may follow a subcommand's name
+-- the rule that is passed to `clap` for an argument of a subcommand
 abbrev pub argument_rule : Argument → Rule
 argument_rule (File help) = file_rule
 argument_rule Meshes = mesh_rule
@@ -17,16 +17,16 @@ argument_rule (Flag name help) = flag_rule name.now
 argument_rule (Text option) = text_rule option.name.now
 argument_rule (Texts option) = texts_rule option.name.now
 
--- a command with these arguments behind those that it has
+-- the command with these arguments added at the end
 abbrev pub with_arguments : App → List Argument → App
 with_arguments app [] = app
 with_arguments app (argument ∷ arguments) = with_arguments (with_rule app (argument_rule argument)) arguments
 
--- the command of a subcommand
+-- the `clap` command of a subcommand
 abbrev pub subcommand_app : Subcommand → App
 subcommand_app subcommand = with_arguments (new_app subcommand.name.now) subcommand.arguments.now
 
--- a command with these subcommands behind those that it has
+-- the command with these subcommands added at the end
 abbrev pub with_subcommands : App → List Subcommand → App
 with_subcommands app [] = app
 with_subcommands app (subcommand ∷ subcommands) = with_subcommands (with_subcommand app (subcommand_app subcommand).top) subcommands

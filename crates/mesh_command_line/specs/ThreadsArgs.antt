@@ -1,4 +1,4 @@
--- The ranges of the numbers that `threads` is asked for.
+-- The ranges of the numbers in the arguments of `threads`.
 use Rattle.std.specs.Prelude.{◌≤◌, ℕ}
 
 -- the numbers are in their ranges

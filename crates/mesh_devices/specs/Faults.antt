@@ -4,7 +4,7 @@ use Rattle.mesh_job.specs.declared.faults.ReadFault.TheVariants.{Text as ReadTex
 use Rattle.mesh_devices.specs.declared.faults.ReplayError.{ReplayError}
 use Rattle.mesh_devices.specs.declared.faults.ReplayError.TheVariants.{Text, Memory}
 
--- a replay stops with the fault of what it read
+-- the error of a replay that stops because it couldn't read its job
 abbrev pub replay_error_of : ReadFault → ReplayError
 replay_error_of (ReadText fault) = Text fault
 replay_error_of ReadMemory = Memory

@@ -7,6 +7,6 @@ use Rattle.mesh_draw.specs.declared.painters.Measuring.{Measuring}
 abbrev pub next_measured : Measuring → ℕ
 next_measured painter = painter.measure
 
--- the number of the line that the drawing one is shown next
+-- the number of the line that the drawing painter is shown next
 abbrev pub next_drawn : Drawing → ℕ
 next_drawn painter = painter.picture

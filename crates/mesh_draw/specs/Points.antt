@@ -1,4 +1,4 @@
--- What a painter is shown: the points of a job's plan, one after the other.
+-- The points of a job's plan that a painter is shown, one after the other.
 use Rattle.std.specs.Prelude.{◌≡◌, ℕ, ◌+◌, ◌++◌, List, max}
 use Rattle.model_jobs.specs.Jobs.{Job}
 use Rattle.model_jobs.specs.Texts.{ended}
@@ -9,8 +9,8 @@ use Rattle.mesh_draw.specs.Captions.{IsCaption}
 use Rattle.mesh_draw.specs.Frames.{IsFrame}
 use Rattle.mesh_picture.specs.declared.frame.Frame.{Frame}
 
--- what to show after a number of lines of the plan: the caption of the last of them, the answer to it, and the heap in
--- the job's state then
+-- the point after `played` lines of the plan, at least one: the caption of the last line, the answer to it, and a frame
+-- of the heap in the job's state after it. In this heap, a page is read-only if and only if a running mesh protects it
 pub record IsPoint (job : Job) (played : ℕ) (words answer : List ℕ) (frame : Frame) : Type 0 where
   pub book : Book
   pub places : List ℕ
@@ -22,6 +22,7 @@ pub record IsPoint (job : Job) (played : ℕ) (words answer : List ℕ) (frame :
   pub said : IsCaption job before words
   pub told : lines_up_to job played ≡ lines_up_to job before ++ ended answer
 
--- the number of the line that is shown next, once so many are played, where the first one shown has this number
+-- the number of the line that a painter is shown next, if `played` lines were played and the first line to show is
+-- `from`
 abbrev pub next_shown : ℕ → ℕ → ℕ
 next_shown from played = max from (played + 1)

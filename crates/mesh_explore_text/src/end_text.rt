@@ -12,7 +12,7 @@ use mesh_text::add_decimal;
 use std::alloc::{AllocError, Global};
 
 /// Adds the lines of a state in which no move is left: the progress of each mesh, and why each worker with commands
-/// left does not go on. An error of this function or of those below is an allocation failure.
+/// left does not go on. Every error in this file is an allocation failure.
 pub(crate) fn add_end(
     alloc: Global,
     text: &mut Vec<u8>,

@@ -4,14 +4,14 @@
 //! (`listing`, of `notes`, `outcomes` and `ends`; `phase` is the phase of a mesh). `explore` reads a job, explores what
 //! its plan leaves and writes that listing. `summary` is the text of a listing:
 //!
-//! - for each command its answers, and for each answer the phases of the meshes in which it comes (`answer_text`,
-//!   `ranges`);
+//! - for each command its answers, and for each answer the phases of the meshes in which the command gets it
+//!   (`answer_text`, `ranges`);
 //! - the outcomes of all workers together (`told_text`), each with the moves that lead to it (`outcome_text`) and with
 //!   how these end (`end_text`).
 //!
-//! A job file that leads to an outcome is the job with the lines of `lines` after its plan. A job file that ends with
-//! an answer in a phase of a mesh has one more line, that of the command's worker (`shown`). `wanted` selects which of
-//! these is reported.
+//! `lines` returns the lines of a plan that lead to a state. A job with these lines after its plan is a job file that
+//! leads to an outcome. A job file that ends with an answer in a phase of a mesh has one more line, that of the
+//! command's worker (`shown`). `wanted` selects which of these is reported.
 #![tactic(auto)]
 
 mod answer_text;

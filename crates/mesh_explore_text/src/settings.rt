@@ -4,7 +4,7 @@ ghost use Rattle.std.specs.Prelude.{◌≡◌, ◌≤◌, length, slice_get};
 use mesh_explore::{MeshPair, StateAt};
 use model_words::Version;
 
-/// How many workers there are.
+/// Returns the number of workers.
 pub(crate) fn workers_of(state: &StateAt<'_>) -> usize
     ensures value { result ≡ length state.now.setting.job.scripts }
     ensures few { result ≤ 64 }
@@ -12,7 +12,7 @@ pub(crate) fn workers_of(state: &StateAt<'_>) -> usize
     state.setting().workers()
 }
 
-/// How many meshers there are.
+/// Returns the number of meshers.
 pub(crate) fn meshers_of(state: &StateAt<'_>) -> usize
     ensures { result ≡ length state.now.setting.pairs }
 {

@@ -9,8 +9,8 @@ use mesh_text::add_reply;
 use model_words::Reply;
 use std::alloc::AllocError;
 
-/// Adds a line for each worker that got an answer: ` worker W: ANSWER | ANSWER ..`. An error of this function or of
-/// those below is an allocation failure.
+/// Adds a line for each worker that got an answer: ` worker W: ANSWER | ANSWER ..`. Every error in this file is an
+/// allocation failure.
 pub fn add_told(text: &mut Vec<u8>, told: &[Told]) -> Result<(), AllocError>
     ensures { OnOk result (text.new.items ≡ text.old.items ++ told_text told.now) }
 {
@@ -43,7 +43,7 @@ fn add_line(text: &mut Vec<u8>, worker: u64, replies: &[Reply]) -> Result<(), Al
     }
 }
 
-/// Adds the text of a reply, and then that of the others.
+/// Adds the text of a reply, and then the texts of the other replies.
 fn add_replies(text: &mut Vec<u8>, first: &Reply, others: &[Reply]) -> Result<(), AllocError>
     ensures { OnOk result (text.new.items ≡ text.old.items ++ replies_text (first.now ∷ others.now)) }
 {

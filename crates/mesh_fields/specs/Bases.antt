@@ -10,12 +10,12 @@ abbrev pub radix : Base → ℕ
 radix Decimal = 10
 radix Hex = 16
 
--- the byte is a digit of the base
+-- whether the byte is a digit of the base
 abbrev pub is_digit : Base → ℕ → Bool
 is_digit Decimal = is_decimal_digit
 is_digit Hex = is_hex_digit
 
--- its value
+-- the value of a digit of the base, or none for another byte
 abbrev pub digit_value : Base → ℕ → Option ℕ
 digit_value Decimal byte = if is_decimal_digit byte then Some (byte - 48) else None
 digit_value Hex byte = hex_value byte

@@ -5,20 +5,20 @@ use Rattle.model_jobs.specs.Texts.{hex_from}
 use Rattle.model_words.specs.declared.faults.FaultKind.{FaultKind}
 use Rattle.model_words.specs.declared.faults.FaultKind.TheVariants.{Number}
 
--- the byte is a hexadecimal digit in lower case
+-- whether the byte is a hexadecimal digit in lower case
 abbrev pub is_hex_digit : ℕ → Bool
 is_hex_digit byte = is_some (hex_value byte)
 
--- the byte is a decimal digit
+-- whether the byte is a decimal digit
 abbrev pub is_decimal_digit : ℕ → Bool
 is_decimal_digit byte = is_between 48 57 byte
 
--- some digits have no zero before others
+-- if there are two or more digits, the first isn't zero
 abbrev pub LeadsNoZero : List ℕ → Type 0
 LeadsNoZero digits = (2 ≤ length digits) × (slice_index digits 0 ≡ 48) → ⊥
 
--- a field of hexadecimal digits: it is the one spelling of its number, of a digit and so many more at most, and the
--- number is at most `most`. With 7 and 268435455 it is the address of a job
+-- the number in a hexadecimal field. The field must be the number's one spelling, with at most `more + 1` digits, and
+-- the number must be at most `most`. With 7 and 268435455 the number is an address of a job
 abbrev pub hex_in : ℕ → ℕ → List ℕ → Result ℕ FaultKind
 hex_in more most field =
     if are_same (hex_from more (hex_number field)) field && nat_le (hex_number field) most then Ok (hex_number field) else Err Number

@@ -1,4 +1,4 @@
--- Of a line that comes in pieces, what is kept until its end has come.
+-- The bytes of a line that are kept until the line's end is read.
 use Rattle.std.specs.Prelude.{◌≡◌, ℕ, false, if◌then◌else◌, nat_eq, nat_lt, List, length, take}
 use Rattle.std.specs.List.{All}
 use Rattle.model_words.specs.declared.faults.FaultKind.{FaultKind}
@@ -8,11 +8,12 @@ use Rattle.model_words.specs.declared.faults.FaultKind.TheVariants.{Cut, LongLin
 abbrev pub IsUnended : List ℕ → Type 0
 IsUnended bytes = All (λ b. nat_eq b 10 ≡ false) bytes
 
--- of the beginning of a line these bytes are kept: enough to detect that the line is too long
+-- the kept bytes are the first 1025 bytes of a line that has begun, or all of its bytes if there are fewer: enough to
+-- detect that the line is too long
 pub record IsKept (kept begun : List ℕ) : Type 0 where
   pub front : kept ≡ take 1025 begun
   pub unended : IsUnended begun
 
--- the fault of what follows the last line end: the line is cut off, unless it is too long already
+-- the fault of the bytes after the last line end: `LongLine` if there are more than 1024, otherwise `Cut`
 abbrev pub rest_fault : List ℕ → FaultKind
 rest_fault rest = if nat_lt 1024 (length rest) then LongLine else Cut

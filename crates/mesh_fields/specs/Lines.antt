@@ -7,27 +7,28 @@ use Rattle.model_words.specs.declared.faults.FaultKind.{FaultKind}
 use Rattle.model_words.specs.declared.faults.FaultKind.TheVariants.{LongLine, Byte}
 use denote.Ref.{Bor}
 
--- the bytes that each of some fields has
+-- the bytes of each field
 abbrev pub texts : List (Bor (List ℕ)) → List (List ℕ)
 texts fields = map (λ field. field.now) fields
 
--- the lines of a text, the last of them what follows the last line end
+-- the lines of a text. The last line is the bytes after the last line end
 abbrev pub text_lines : List ℕ → List (List ℕ)
 text_lines text = slice_split (λ b. nat_eq b 10) text
 
--- the fields of a line, its word first
+-- the fields of a line. The first field is the line's word
 abbrev pub line_fields : List ℕ → List (List ℕ)
 line_fields line = slice_split (λ b. nat_eq b 32) line
 
--- the byte is allowed in a field
+-- whether the byte is allowed in a field
 abbrev pub is_field_byte : ℕ → Bool
 is_field_byte byte = is_between 33 126 byte
 
--- a line without its end is short enough, and has no byte that isn't allowed in a line
+-- the line, without its end, has at most 1024 bytes, and each byte is allowed in a line. Otherwise the fault is
+-- `LongLine` or `Byte`, in this order
 abbrev pub bytes_fit : List ℕ → Result (Unit {0}) FaultKind
 bytes_fit line = refuse_if LongLine (nat_lt 1024 (length line)) >>= λ _. refuse_if Byte (not (list_all is_printable line))
 
--- the next line of a text has these fields, and no fault of its bytes; this is the rest behind it
+-- the next line of the text has at most 1024 bytes, all printable, and these fields. `rest` is the text after the line
 pub record IsSplit (text : List ℕ) (fields : List (List ℕ)) (rest : List ℕ) : Type 0 where
   pub line : List ℕ
   pub lines : text_lines text ≡ line ∷ text_lines rest
@@ -35,12 +36,13 @@ pub record IsSplit (text : List ℕ) (fields : List (List ℕ)) (rest : List ℕ
   pub printable : list_all is_printable line ≡ true
   pub has_fields : fields ≡ line_fields line
 
--- the text has no line end, and is no longer than a line may be
+-- the text has no line end, and at most the 1024 bytes of a line
 pub record IsPartOfLine (text : List ℕ) : Type 0 where
   pub unended : text_lines text ≡ text ∷ []
   pub short : length text ≤ 1024
 
--- whatever was read before it and whatever follows, the next line of this text has this fault in a job file
+-- in a job file that hasn't ended, the next line of this text has this fault, whatever was read before and whatever
+-- follows the text
 abbrev pub IsFaultyLine : List ℕ → FaultKind → Type 0
 IsFaultyLine text kind =
     (number : ℕ) (draft : Draft) (more : List ℕ) → has_ended draft.section ≡ false

@@ -20,7 +20,7 @@ use std::alloc::AllocError;
 /// The number of bytes in a tenth of a megabyte.
 const TENTH_OF_MEGABYTE: u64 = 100000;
 
-/// Adds the line with the number of calls and the counts of objects. An error is an allocation failure, here and below.
+/// Adds the line with the number of calls and the counts of objects. Every error in this file is an allocation failure.
 #[tactic(auto, unfolding(crate::specs::Texts::calls_line))]
 pub fn add_calls(text: &mut Vec<u8>, calls: u32, counts: &Counts) -> Result<(), AllocError>
     ensures { OnOk result (text.new.items ≡ text.old.items ++ calls_line calls counts.now) }
@@ -81,7 +81,7 @@ fn add_row(text: &mut Vec<u8>, name: &[u8], pages: &Pages, live: u64) -> Result<
     add(text, b"\n")
 }
 
-/// Adds the line about the call after which meshing saves most. If no call was measured, the line has a dash.
+/// Adds the line about the call after which meshing saves most, with a dash if no call was measured.
 #[tactic(auto, unfolding(crate::specs::Texts::most_saved_line))]
 pub fn add_most_saved(text: &mut Vec<u8>, most: &Option<Saving>) -> Result<(), AllocError>
     ensures { OnOk result (text.new.items ≡ text.old.items ++ most_saved_line most.now) }

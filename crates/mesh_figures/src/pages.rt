@@ -1,6 +1,6 @@
-//! One figure of the pages of both heaps and of perfect packing.
+//! `Pages`: a figure for each of the two heaps and for perfect packing.
 
-/// One figure of pages: of the heap that doesn't mesh, of the meshing heap, and of perfect packing.
+/// A number of pages in the heap that doesn't mesh, in the heap that meshes, and with perfect packing.
 #[derive(Clone, Copy, Debug)]
 pub struct Pages {
     pub without: u64,

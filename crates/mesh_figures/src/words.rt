@@ -6,7 +6,7 @@ use crate::rounding::divided;
 use itoa::Buffer;
 use std::alloc::{AllocError, Global};
 
-/// Adds a word. An error is an allocation failure, here and below.
+/// Adds a word. Every error in this file is an allocation failure.
 pub fn add(text: &mut Vec<u8>, word: &[u8]) -> Result<(), AllocError>
     ensures { OnOk result (text.new.items ≡ text.old.items ++ word.now) }
 {

@@ -4,7 +4,7 @@ use Rattle.model_jobs.specs.JobFiles.{read_text}
 use Rattle.mesh_job.specs.declared.faults.ReadFault.{ReadFault}
 use Rattle.mesh_job.specs.declared.faults.ReadFault.TheVariants.{Text as ReadText, Memory as ReadMemory}
 
--- why a text gave no job: its first fault, or out of memory
+-- why a text gave no job: the text's first fault, or out of memory
 abbrev pub IsReadFault : List ℕ → ReadFault → Type 0
 IsReadFault text (ReadText fault) = read_text text ≡ Err fault
 IsReadFault text ReadMemory = Unit {0}

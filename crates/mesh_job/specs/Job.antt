@@ -1,11 +1,11 @@
--- Which jobs there are.
+-- The limits of a job.
 use Rattle.std.specs.Prelude.{ℕ, ◌≤◌, List}
 use Rattle.std.specs.List.{All}
 use Rattle.model_jobs.specs.JobFiles.{IsValidLine}
 use Rattle.model_jobs.specs.Jobs.{Line}
 use Rattle.model_words.specs.declared.versions.Version.{Version}
 
--- a job within its limits, whose plan has the lines of its version and runs only workers that there are
+-- the job is within its limits, and each line of its plan is valid in its version and runs only workers of the job
 pub record IsJob (version : Version) (pages history workers : ℕ) (plan : List Line) : Type 0 where
   pub some_pages : 1 ≤ pages
   pub few_pages : pages ≤ 4096

@@ -1,4 +1,4 @@
--- What is known of a line that is read in one pass over the text.
+-- The lines that are read in one pass over the text.
 use Rattle.std.specs.Prelude.{◌≡◌, ℕ, List, ◌∷◌, ◌++◌}
 use Rattle.model_jobs.specs.JobFiles.{IsValidCommand, IsValidLine}
 use Rattle.model_jobs.specs.Texts.{command_text, line_text}
@@ -7,12 +7,13 @@ use Rattle.model_words.specs.declared.versions.Version.{Version}
 use Rattle.mesh_job.specs.Plan.{line_of}
 use Rattle.mesh_job.specs.declared.plan.PlanLine.{PlanLine}
 
--- the text is the line of a command that every version has, its end, and this rest
+-- the text is the line of this command, a line end, and this rest, and the command is valid in every version
 pub record IsQuickCommand (text : List ℕ) (command : Command) (rest : List ℕ) : Type 0 where
   pub spelt : text ≡ command_text command ++ 10 ∷ rest
   pub valid : (version : Version) → IsValidCommand version command
 
--- the text is a line of the plan of a job of this version and so many workers, its end, and this rest
+-- the text is this line of a plan, a line end, and this rest. The line is valid in a job of this version and this
+-- number of workers
 pub record IsQuickLine (version : Version) (workers : ℕ) (text : List ℕ) (line : PlanLine) (rest : List ℕ) : Type 0 where
   pub spelt : text ≡ line_text (line_of line) ++ 10 ∷ rest
   pub valid : IsValidLine version workers (line_of line)

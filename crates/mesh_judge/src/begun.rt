@@ -11,7 +11,7 @@ use mesh_devices::{DeviceFault, ReplayError, Source, read_some};
 /// The number of bytes that are inspected: the length of the line `history 2` with its line end.
 const LOOKED_AT: usize = 10;
 
-/// A source, and those of its bytes that were inspected and not read yet.
+/// A source, and the bytes that were inspected but not read yet.
 #[derive(Drop)]
 pub struct Begun<I: Drop> {
     inner: I,
@@ -30,8 +30,8 @@ impl<I: Source + Drop> Begun<I> {
         }
     }
 
-    /// Whether the text begins with `bytes`. A `false` means that it doesn't only if `bytes` has ten bytes. The call
-    /// consumes nothing of the text.
+    /// Whether the text begins with `bytes`. If `bytes` has fewer than ten bytes, the result may be `false` although
+    /// the text begins with them. The call consumes nothing of the text.
     ///
     /// The only error is `Read`: the source failed.
     pub fn begins_with(&mut self, bytes: &[u8]) -> Result<bool, ReplayError>

@@ -11,7 +11,7 @@ use mesh_spelling::{add_bytes, add_decimal};
 use model_words::{MAX_BYTES, Refusal};
 use std::alloc::AllocError;
 
-/// Appends the reason why no order explains a history. An error is an allocation failure, here and below.
+/// Appends the reason why no order explains a history. Every error in this file is an allocation failure.
 pub(crate) fn add_flaw(text: &mut Vec<u8>, flaw: &Flaw) -> Result<(), AllocError>
     ensures { OnOk result (text.new.items ≡ text.old.items ++ flaw_text flaw.now) }
 {
@@ -38,7 +38,7 @@ pub(crate) fn add_flaw(text: &mut Vec<u8>, flaw: &Flaw) -> Result<(), AllocError
     }
 }
 
-/// Appends an answer that no order explains, and the answers that the call could have got.
+/// Appends an answer that no order explains, and the answers that were possible.
 fn add_unexplained(text: &mut Vec<u8>, unexplained: &Unexplained) -> Result<(), AllocError>
     ensures { OnOk result
         (text.new.items ≡ text.old.items

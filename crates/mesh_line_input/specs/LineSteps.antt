@@ -1,4 +1,4 @@
--- The steps of a read: what was read within a line, and what the bytes that came make of it.
+-- The steps of a read: the beginning of a line that was read, and what the unread bytes add to it.
 use Rattle.std.specs.Prelude.{◌≡◌, ℕ, ◌+◌, ◌<◌, ◌≤◌, ◌^◌, true, List, [], ◌∷◌, ◌++◌, Option, Some, length}
 use Rattle.std.specs.Io.KnownBytes.{Consumes}
 use Rattle.mesh_devices.specs.declared.faults.ReplayError.{ReplayError}
@@ -9,26 +9,26 @@ use Rattle.mesh_history.specs.Readings.{end_fault, is_full, long_line, too_long}
 use Rattle.mesh_line_input.specs.LineInputs.{GoesOnLong, line_of, lines_of, unread_of}
 use Rattle.mesh_line_input.specs.declared.inputs.LineInput.{LineInput}
 
--- of the text that its device gave, these lines were read, and the beginning of the next one
+-- these lines and the beginning of the next line were read from the text that the device returned
 pub record HasBegun (input : LineInput) (left left' : Option (List ℕ)) (lines : List (List ℕ)) : Type 0 where
   pub text : List ℕ
   pub taken : Consumes left left' text
   pub reads : (more : List ℕ) → text_lines (text ++ more) ≡ lines ++ text_lines (line_of input ++ (unread_of input ++ more))
   pub count : length lines ≡ lines_of input
 
--- the next line has ended
+-- the next line was read to its end, and there are still fewer than 2^32 lines
 pub record IsNext (old new : LineInput) : Type 0 where
   pub reads : (more : List ℕ) → text_lines (line_of old ++ (unread_of old ++ more)) ≡ line_of new ∷ text_lines (unread_of new ++ more)
   pub count : lines_of new ≡ lines_of old + 1
   pub few : lines_of new < 2 ^ 32
 
--- no line ends in the bytes that came: they are the line's
+-- all unread bytes were added to the line, which hasn't ended
 pub record IsUsedUp (old new : LineInput) : Type 0 where
   pub line : line_of new ≡ line_of old ++ unread_of old
   pub used_up : unread_of new ≡ []
   pub count : lines_of new ≡ lines_of old
 
--- the fault of the next line, whatever follows the bytes that came
+-- the fault of the next line, whatever follows the unread bytes: the line is too long, or no further line is allowed
 pub data IsFaultAhead (old : LineInput) (fault : TextFault) : Type 0 where
   LongAhead : ((more : List ℕ) → GoesOnLong (text_lines (line_of old ++ (unread_of old ++ more))) []) → fault ≡ long_line (lines_of old)
       → IsFaultAhead old fault
@@ -40,12 +40,12 @@ IsFaulty old (Text fault) = IsFaultAhead old fault
 IsFaulty old Memory = Unit {0}
 IsFaulty old _ = ⊥
 
--- the text has this fault where it ends here, and there is no other error
+-- if the text ends here, it has this fault. No other error is possible
 abbrev pub EndsWithFault : LineInput → ReplayError → Type 0
 EndsWithFault input (Text fault) = end_fault (lines_of input) (line_of input) ≡ Some fault
 EndsWithFault input _ = ⊥
 
--- why bytes of a line that has so many before it aren't kept: they are too many, or an allocation failed
+-- why bytes of the line after this number of lines aren't kept: they are more than 1024, or an allocation failed
 abbrev pub IsNotKept : ℕ → List ℕ → ReplayError → Type 0
 IsNotKept lines bytes (Text fault) = (fault ≡ long_line lines) × (1024 < length bytes)
 IsNotKept lines bytes Memory = Unit {0}

@@ -7,7 +7,7 @@ use Rattle.mesh_text.specs.Turns.{IsAt, book_of as book_of_turns, places_of, wor
 use Rattle.mesh_live.specs.declared.session.Session.{Session}
 use Rattle.mesh_live.specs.declared.sizes.Sizes.{Sizes}
 
--- sizes that a job may have
+-- these sizes are in the ranges of a job's sizes
 pub record HasFairSizes (sizes : Sizes) : Type 0 where
   pub some_pages : 1 ≤ sizes.pages
   pub few_pages : sizes.pages ≤ 4096
@@ -15,7 +15,7 @@ pub record HasFairSizes (sizes : Sizes) : Type 0 where
   pub some_workers : 1 ≤ sizes.workers
   pub few_workers : sizes.workers ≤ 64
 
--- the job that a session of these sizes is: of version 2, with no command in a script, and no line in its plan
+-- the job that models a session of these sizes: its version is 2, its scripts and its plan are empty
 abbrev pub job_of : Sizes → Job
 job_of sizes = record { version = Two; pages = sizes.pages; history = sizes.history; scripts = replicate sizes.workers []; plan = [] }
 
@@ -32,11 +32,11 @@ sizes_of session = record { pages = session.job.pages; history = session.job.his
 abbrev pub book_of : Session → Book
 book_of session = book_of_turns session.turns
 
--- the state of a session: what its heap and its journal are to the definitions, and no command in a script
+-- the state of a session: the memory, table and entries of its book, and empty scripts
 abbrev pub state_of : Session → State
 state_of session = state_in (sizes_of session).workers (book_of session)
 
--- a session's job has empty scripts and an empty plan, and the state of the session
+-- the session's job has empty scripts and an empty plan, and the session's book and places represent its state
 pub record IsSession (session : Session) : Type 0 where
   pub idle : session.job ≡ job_of (sizes_of session)
   pub workers : worker_count session.turns ≡ (sizes_of session).workers

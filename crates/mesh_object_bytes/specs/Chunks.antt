@@ -7,21 +7,21 @@ abbrev pub index_of : ℕ → List Chunk → ℕ
 index_of number [] = 0
 index_of number (chunk ∷ chunks) = if nat_lt chunk.number number then suc (index_of number chunks) else 0
 
--- the bytes that are kept under a number, none if no chunk is
+-- the bytes of the chunk with this number, or none if there is no such chunk
 abbrev pub kept_bytes : ℕ → List Chunk → List ℕ
 kept_bytes number [] = []
 kept_bytes number (chunk ∷ chunks) =
     if nat_lt chunk.number number then kept_bytes number chunks else (if nat_eq chunk.number number then chunk.bytes else [])
 
--- so many zeros
+-- `n` zeros
 unfoldable pub zeros : ℕ → List ℕ
 zeros n = replicate n 0
 
--- the 64 bytes of a chunk: those that are kept, and zeros behind them
+-- the 64 bytes of a chunk: the kept bytes, followed by zeros
 unfoldable pub chunk_bytes : ℕ → List Chunk → List ℕ
 chunk_bytes number chunks = take 64 (kept_bytes number chunks ++ zeros 64)
 
--- the chunks with this one in its place, instead of the one of the same number if there is one
+-- the chunks with this chunk inserted in order. If there is a chunk of this number, it is replaced
 abbrev pub with_chunk : ℕ → List ℕ → List Chunk → List Chunk
 with_chunk number bytes [] = record { number = number; bytes = bytes } ∷ []
 with_chunk number bytes (chunk ∷ chunks) =

@@ -1,4 +1,4 @@
--- The bytes of an object as what accesses find and change, and as the chunks that are kept.
+-- The bytes of an object: the effects of accesses on the bytes, and on the chunks that represent them.
 use Rattle.std.specs.Prelude.{◌≡◌, ℕ, ◌+◌, not, ◌&&◌, if◌then◌else◌, List, [], Option, Some, None, length, map, nat_eq, option_map, slice_range}
 use Rattle.std.specs.List.{range_with_len}
 use Rattle.std.specs.Str.{bytes_eq}
@@ -9,12 +9,12 @@ use Rattle.mesh_object_bytes.specs.declared.access.Access.TheVariants.{Store, Lo
 use Rattle.mesh_object_bytes.specs.declared.chunk.Chunk.{Chunk}
 use Rattle.mesh_object_bytes.specs.Chunks.{byte_at, stored}
 
--- how many bytes an object has, and the chunks in which a byte was stored
+-- the number of bytes of an object, and the chunks in which a byte was stored
 pub record State : Type 0 where
   pub len : ℕ
   pub chunks : List Chunk
 
--- so many zeros: no chunk is kept
+-- the state of an object of `len` zeros, without chunks
 abbrev pub first_state : ℕ → State
 first_state len = record { len = len; chunks = [] }
 
@@ -22,7 +22,7 @@ first_state len = record { len = len; chunks = [] }
 unfoldable pub bytes_of : State → List ℕ
 bytes_of state = map (byte_at state.chunks) (range_with_len 0 state.len)
 
--- the bytes behind an access, if it answers as it was recorded
+-- the bytes after an access, or None if the recorded answer isn't the one that these bytes give
 abbrev pub accessed_by : Access → List ℕ → Option (List ℕ)
 accessed_by (Store off new) bytes = if ends_past bytes off (length new.items) then None else Some (overwritten bytes off new.items)
 accessed_by (Load off len answered) bytes =
@@ -31,7 +31,7 @@ accessed_by (Load off len answered) bytes =
 accessed_by Nothing bytes = Some bytes
 accessed_by (Elsewhere address) bytes = None
 
--- the state behind an access, if it answers as it was recorded
+-- the state after an access, or None if the recorded answer isn't the one that this state gives
 abbrev pub effect : State → Access → Option State
 effect state (Store off new) =
     if ends_past (bytes_of state) off (length new.items) then None else Some (record { len = state.len; chunks = stored state.chunks off new.items })
@@ -41,6 +41,6 @@ effect state (Load off len answered) =
 effect state Nothing = Some state
 effect state (Elsewhere address) = None
 
--- what an access does to the state is what it does to the bytes
+-- an access changes the bytes of a state as `accessed_by` does
 abbrev pub EffectIsAccess : Type 0
 EffectIsAccess = (state : State) (access : Access) → option_map bytes_of (effect state access) ≡ accessed_by access (bytes_of state)

@@ -1,4 +1,5 @@
--- Packed commands and replies, with the bytes beside them, and that what was packed stays.
+-- Packed commands and replies, whose bytes are in a separate list, and proofs that more bytes in the list don't change
+-- them.
 use Rattle.std.specs.Prelude.{◌≡◌, ℕ, ◌≤◌, List, [], ◌∷◌, ◌++◌, length, map, refl}
 use Rattle.std.specs.List.{All}
 use Rattle.std.proofs.Common.{zero, arith, ◌∙◌}
@@ -14,7 +15,7 @@ use Rattle.mesh_packed.specs.declared.reply.PackedReply.{PackedReply}
 use Rattle.mesh_packed.specs.declared.reply.PackedReply.TheVariants.{Object, Done, Bytes, At, Byte, Refused}
 use Rattle.mesh_packed.specs.Runs.{IsRunWithin, KeepsAll, run_in}
 
--- the command that was packed
+-- the command that a packed command represents
 abbrev pub command_in : List ℕ → PackedCommand → Command
 command_in kept (New cell len word) = command.New cell len word
 command_in kept (Put cell off run) = command.Put cell off (run_in kept run)
@@ -26,7 +27,7 @@ command_in kept (Peek addr) = command.Peek addr
 command_in kept (Poke addr byte) = command.Poke addr byte
 command_in kept (Copy to from to_off from_off len) = command.Copy to to_off from from_off len
 
--- the reply that was packed
+-- the reply that a packed reply represents
 abbrev pub reply_in : List ℕ → PackedReply → Reply
 reply_in kept (Object serial addr) = reply.Object serial addr
 reply_in kept Done = reply.Done
@@ -35,37 +36,38 @@ reply_in kept (At addr) = reply.At addr
 reply_in kept (Byte byte) = reply.Byte byte
 reply_in kept (Refused refusal) = reply.Refused refusal
 
--- the bytes that a command stores; of the others only a store has some
+-- the bytes of a `put`, or no bytes for another command
 abbrev pub bytes_of_command : Command → List ℕ
 bytes_of_command (command.Put cell off bytes) = bytes.items
 bytes_of_command command = []
 
--- the bytes that a reply gives; of the others only a load's has some
+-- the bytes in the reply to a `get`, or no bytes for another reply
 abbrev pub bytes_of_reply : Reply → List ℕ
 bytes_of_reply (reply.Bytes bytes) = bytes.items
 bytes_of_reply reply = []
 
--- where a command has bytes, they are among so many
+-- if a packed command has bytes, they are at most 32 of the first `count` bytes
 abbrev pub IsCommandWithin : ℕ → PackedCommand → Type 0
 IsCommandWithin count (Put cell off run) = IsRunWithin count run
 IsCommandWithin count command = Unit {0}
 
--- where a reply has bytes, they are among so many
+-- if a packed reply has bytes, they are at most 32 of the first `count` bytes
 abbrev pub IsReplyWithin : ℕ → PackedReply → Type 0
 IsReplyWithin count (Bytes run) = IsRunWithin count run
 IsReplyWithin count reply = Unit {0}
 
--- a packed command stays while more bytes are kept
+-- if bytes are added and no kept run changes, a packed command whose bytes were kept before still represents its
+-- command
 pub command_stays : (kept kept' : List ℕ) (command : PackedCommand) → KeepsAll kept kept' → IsCommandWithin (length kept) command → command_in kept' command ≡ command_in kept command
 command_stays kept kept' (Put cell off run) keeps within = rw (keeps.runs run within) refl
 command_stays kept kept' command keeps within = refl
 
--- as does a packed reply
+-- if bytes are added and no kept run changes, a packed reply whose bytes were kept before still represents its reply
 pub reply_stays : (kept kept' : List ℕ) (reply : PackedReply) → KeepsAll kept kept' → IsReplyWithin (length kept) reply → reply_in kept' reply ≡ reply_in kept reply
 reply_stays kept kept' (Bytes run) keeps within = rw (keeps.runs run within) refl
 reply_stays kept kept' reply keeps within = refl
 
--- what is among some bytes is among more
+-- if a packed command's or reply's bytes are within `count` bytes, they are within any larger number of bytes
 pub command_within : (count count' : ℕ) (command : PackedCommand) → count ≤ count' → IsCommandWithin count command → IsCommandWithin count' command
 command_within count count' (Put cell off run) most within = record { ends = omega (arith, most, within.ends); few = within.few }
 command_within count count' command most within = tt
@@ -74,7 +76,8 @@ pub reply_within : (count count' : ℕ) (reply : PackedReply) → count ≤ coun
 reply_within count count' (Bytes run) most within = record { ends = omega (arith, most, within.ends); few = within.few }
 reply_within count count' reply most within = tt
 
--- packed commands in a list stay the same when more bytes are kept
+-- if bytes are added and no kept run changes, the packed commands of a list whose bytes were kept before still
+-- represent their commands
 commands_stay : (kept kept' : List ℕ) (commands : List PackedCommand) → KeepsAll kept kept' → All (IsCommandWithin (length kept)) commands → map (command_in kept') commands ≡ map (command_in kept) commands
 commands_stay kept kept' [] keeps within = refl
 commands_stay kept kept' (command ∷ commands) keeps within =
@@ -83,7 +86,8 @@ commands_stay kept kept' (command ∷ commands) keeps within =
       commands_stay kept kept' commands keeps (All-tail (IsCommandWithin (length kept)) command commands within),
     ) refl
 
--- and a further packed command is appended to them
+-- if a packed command is appended to such a list, the list represents the commands before, followed by the appended
+-- command
 pub commands_pushed : (kept kept' : List ℕ) (commands : List PackedCommand) (packed : PackedCommand) (command : Command) → KeepsAll kept kept' → All (IsCommandWithin (length kept)) commands → command_in kept' packed ≡ command
     → map (command_in kept') (commands ++ packed ∷ []) ≡ map (command_in kept) commands ++ command ∷ []
 commands_pushed kept kept' commands packed command keeps within is = map-append (command_in kept') commands (packed ∷ []) ∙ rw (commands_stay kept kept' commands keeps within, is) refl

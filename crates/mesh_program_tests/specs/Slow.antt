@@ -2,6 +2,6 @@
 use Rattle.std.specs.Prelude.{Bool}
 use Rattle.mesh_program_tests.specs.declared.memory.slow.SlowSource.{SlowSource}
 
--- a call of it came when none was left
+-- whether the source was called when it had no call left
 abbrev pub slow_has_failed : SlowSource → Bool
 slow_has_failed source = source.failed

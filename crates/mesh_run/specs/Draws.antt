@@ -1,4 +1,4 @@
--- How a drawing ends, and how a live session does: a full device is never reported as out of memory.
+-- How a drawing and a live session end. A failure of the output is never reported as out of memory.
 use Rattle.std.specs.Prelude.{◌≡◌, ℕ, Bool, true, false}
 use Rattle.mesh_draw.specs.Draws.{HasDrawn, HasNotDrawn}
 use Rattle.mesh_live.specs.Runs.{HasLived, HasStopped}
@@ -9,19 +9,19 @@ use Rattle.mesh_run.specs.Status.{status_of_error}
 use Rattle.mesh_devices.specs.declared.faults.ReplayError.{ReplayError}
 use Rattle.mesh_devices.specs.declared.faults.ReplayError.TheVariants.{Read, Write, Memory, Text}
 
--- the device that an error names has failed, and on an allocation failure the output hasn't
+-- the device that the error names, if any, has failed. If the error is out of memory, the output hasn't failed
 abbrev pub HasFailedAlone : Bool → Bool → ReplayError → Type 0
 HasFailedAlone input output Memory = output ≡ false
 HasFailedAlone input output Read = HasFailed input output Read
 HasFailedAlone input output Write = HasFailed input output Write
 HasFailedAlone input output (Text fault) = HasFailed input output (Text fault)
 
--- a drawing ends: with status 0 an SVG file was written
+-- how a drawing ends. If the status is 0, an SVG file was written
 abbrev pub EndsDraw : Seen → Seen → ℕ → Type 0
 EndsDraw before after status =
     EndsBy status_of_error error_text HasFailedAlone (λ left left' written written'. HasDrawn written written') HasNotDrawn before after status
 
--- a live session ends
+-- how a live session ends
 abbrev pub EndsLive : Sizes → Seen → Seen → ℕ → Type 0
 EndsLive sizes before after status =
     EndsBy status_of_error error_text HasFailedAlone (HasLived sizes) (λ left left' written written' error. HasStopped sizes left written written') before after status

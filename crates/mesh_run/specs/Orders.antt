@@ -1,4 +1,4 @@
--- What a run writes that is asked for an order of calls that overlap.
+-- What a run writes if it is asked for an order of overlapping calls.
 use Rattle.std.specs.Prelude.{◌≡◌, ◌<◌, ◌≤◌, ◌⊎◌, ℕ, List, Option}
 use Rattle.std.specs.Io.KnownBytes.{Appends}
 use Rattle.model_jobs.specs.Texts.{ended}
@@ -11,34 +11,35 @@ use Rattle.mesh_run.specs.Runs.{HasTold, IsDone}
 use Rattle.mesh_run.specs.Seen.{Seen}
 use Rattle.mesh_run.specs.declared.check_error.CheckError.{CheckError}
 
--- the calls of a text were written in an order that explains them
+-- the calls of the text were written in an order that explains them, and the status is 0
 pub record HasWrittenOrder (text : List ℕ) (written written' : Option (List ℕ)) (status : ℕ) : Type 0 where
   pub history : List ℕ
   pub is_ordered : IsOrderedHistory text history
   pub wrote : Appends written written' history
   pub done : status ≡ 0
 
--- the line of a judgement was written, which has this status
+-- the line of a judgement was written, and the judgement has this status
 abbrev pub HasWrittenVerdict : ℕ → Option (List ℕ) → Option (List ℕ) → ℕ → Type 0
 HasWrittenVerdict most written written' status =
     (judgement : Judgement) × Appends written written' (judgement_text most judgement) × (status ≡ judgement_status judgement)
 
--- the input was read to its end, and an order of the calls of its text, or a judgement, was written
+-- the input was read to its end, and either an order of the calls of its text was written, or a judgement with this
+-- status
 abbrev pub HasToldOrder : ℕ → Option (List ℕ) → Option (List ℕ) → Option (List ℕ) → Option (List ℕ) → ℕ → Type 0
 HasToldOrder most left left' written written' status =
     (text : List ℕ) × HasReadAll left left' text × (HasWrittenOrder text written written' status ⊎ HasWrittenVerdict most written written' status)
 
--- an order or a judgement of this status was written, and no message was printed
+-- an order or a judgement with this status was written, no device failed, and no message was printed
 abbrev pub HasEndedWell : ℕ → Seen → Seen → ℕ → Type 0
 HasEndedWell most before after status = IsDone (λ left left' written written'. HasToldOrder most left left' written written' status) before after
 
--- why neither was written: the line of this error was printed, which has this status
+-- why no order and no judgement was written: the error's line was printed, and the error has this status
 abbrev pub HasEndedFor : Seen → Seen → ℕ → CheckError → Type 0
 HasEndedFor before after status error =
     (status ≡ status_of_check error) × HasTold after.errors_failed before.told after.told (ended (check_error_text error))
 
--- a run that is asked for an order ends: with status 0 an order or a judgement was written, and with another one a
--- judgement was, or it stopped for an error
+-- how a run that is asked for an order ends. If the status is 0, an order or a judgement was written. Otherwise a
+-- judgement with this status was written, or the run stopped for an error with this status. The status is at most 2
 pub record EndsOrder (most : ℕ) (before after : Seen) (status : ℕ) : Type 0 where
   pub done : status ≡ 0 → HasEndedWell most before after status
   pub found : 0 < status → HasEndedWell most before after status ⊎ ((error : CheckError) × HasEndedFor before after status error)

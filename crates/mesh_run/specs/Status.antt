@@ -3,7 +3,7 @@ use Rattle.std.specs.Prelude.{ℕ}
 use Rattle.mesh_devices.specs.declared.faults.ReplayError.{ReplayError}
 use Rattle.mesh_devices.specs.declared.faults.ReplayError.TheVariants.{Read, Write, Memory, Text}
 
--- the status of a replay that stopped: 2 where its text has a fault, else 1
+-- the status of an error that stops a replay: 2 if the text has a fault, otherwise 1
 abbrev pub status_of_error : ReplayError → ℕ
 status_of_error (Text fault) = 2
 status_of_error Read = 1

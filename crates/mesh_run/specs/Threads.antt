@@ -1,4 +1,4 @@
--- What a run of scripts in threads has read and written when it ends or stops, and what it prints then.
+-- What a run of scripts in threads has read and written if it ends or stops, and what it prints then.
 use Rattle.std.specs.Prelude.{◌≡◌, ℕ, ◌<◌, ◌≤◌, Bool, false, List, [], Option, codes, length}
 use Rattle.std.specs.Io.KnownBytes.{Appends, Keeps}
 use Rattle.std.specs.List.{sum_by}
@@ -27,7 +27,7 @@ use Rattle.mesh_text.specs.Replay.{HasFound, HasReadJob}
 use Rattle.mesh_devices.specs.Transfer.{AppendsBeginning}
 use Rattle.mesh_devices.specs.declared.faults.ReplayError.TheVariants.{Read, Write, Text, Memory as NoMemory}
 
--- how many commands scripts have together
+-- the number of commands in all scripts
 abbrev pub command_count : List (List Command) → ℕ
 command_count scripts = sum_by length scripts
 
@@ -39,43 +39,44 @@ HasRoom job = command_count job.scripts ≤ job.history
 abbrev pub IsTooShort : Job → Type 0
 IsTooShort job = job.history < command_count job.scripts
 
--- what is printed of a run of so many workers that left this history: each one's answers, or the history as it is
--- recorded
+-- the printed text of a run with this number of workers that left this history: each worker's answers, or the recorded
+-- history
 abbrev pub text_of_run : Printed → ℕ → List Entry → List ℕ
 text_of_run Answers workers history = history_text workers history
 text_of_run Recorded workers history = recorded_text history
 
--- the scripts were run, each to its end, and left a legal history of which this is printed
+-- the scripts were run to their ends, the run left a legal history, and this is the printed text of the run
 pub record IsTextOfRun (printed : Printed) (scripts : List (List Command)) (text : List ℕ) : Type 0 where
   pub history : List Entry
   pub end : Memory
   pub run : HasRun scripts history end
   pub is_text : text ≡ text_of_run printed (length scripts) history
 
--- a job was read whose history has room for its commands, and this is printed of a run of its scripts
+-- a job was read, and its history has room for the commands of its scripts. This is the printed text of a run of the
+-- scripts
 pub record HasRunJob (printed : Printed) (left left' : Option (List ℕ)) (text : List ℕ) : Type 0 where
   pub job : Job
   pub read : HasReadJob left left' job
   pub room : HasRoom job
   pub run : IsTextOfRun printed job.scripts text
 
--- a job was read, its scripts were run, and what is printed of it was written
+-- a job was read, its scripts were run, and the printed text of the run was written
 abbrev pub HasWrittenRun : Printed → Option (List ℕ) → Option (List ℕ) → Option (List ℕ) → Option (List ℕ) → Type 0
 HasWrittenRun printed left left' written written' = (text : List ℕ) × HasRunJob printed left left' text × Appends written written' text
 
--- a job was read, its scripts were run, and a beginning of what is printed of it was written
+-- a job was read, its scripts were run, and a beginning of the printed text of the run was written
 abbrev pub HasBegunToWrite : Printed → Option (List ℕ) → Option (List ℕ) → Option (List ℕ) → Option (List ℕ) → Type 0
 HasBegunToWrite printed left left' written written' = (text : List ℕ) × HasRunJob printed left left' text × AppendsBeginning written written' text
 
--- a job was read whose history has room for all its commands
+-- a job was read, and its history has room for all commands of its scripts
 abbrev pub HasReadRoomy : Option (List ℕ) → Option (List ℕ) → Type 0
 HasReadRoomy left left' = (job : Job) × HasReadJob left left' job × HasRoom job
 
--- a job was read whose history is too short
+-- a job was read, and its history is too short for the commands of its scripts
 abbrev pub HasReadTooShort : Option (List ℕ) → Option (List ℕ) → Type 0
 HasReadTooShort left left' = (job : Job) × HasReadJob left left' job × IsTooShort job
 
--- what was read and written, by the error that a run stopped for
+-- what was read and written before a run stopped for this error
 abbrev pub HasStoppedRun : Printed → Option (List ℕ) → Option (List ℕ) → Option (List ℕ) → Option (List ℕ) → ThreadsError → Type 0
 HasStoppedRun printed left left' written written' (Replay Read) = Keeps written written'
 HasStoppedRun printed left left' written written' (Replay Write) = HasBegunToWrite printed left left' written written'
@@ -85,14 +86,15 @@ HasStoppedRun printed left left' written written' TooShort = HasReadTooShort lef
 HasStoppedRun printed left left' written written' Thread = HasReadRoomy left left' × Keeps written written'
 HasStoppedRun printed left left' written written' Run = HasReadRoomy left left' × Keeps written written'
 
--- which device has failed: the one that the error names, and none if a job was read and nothing was to be written
+-- the device that the error names has failed. If the error isn't one of a replay, neither the input nor the output has
+-- failed
 abbrev pub HasFailedRun : Bool → Bool → ThreadsError → Type 0
 HasFailedRun input output (Replay error) = HasFailed input output error
 HasFailedRun input output TooShort = (input ≡ false) × (output ≡ false)
 HasFailedRun input output Thread = (input ≡ false) × (output ≡ false)
 HasFailedRun input output Run = (input ≡ false) × (output ≡ false)
 
--- what meshers do is what was asked for, with the words of its seed
+-- the meshers' plan has the numbers that were asked for, and the words of the seed
 pub record IsPlanOf (args : ThreadsArgs) (plan : MeshPlan) : Type 0 where
   pub tries : plan.t ≡ args.probe
   pub rounds : plan.rounds ≡ args.rounds
@@ -100,14 +102,14 @@ pub record IsPlanOf (args : ThreadsArgs) (plan : MeshPlan) : Type 0 where
   pub words : plan.words.items ≡ words_of args.seed args.rounds
   pub meshers : plan.meshers ≡ args.meshers
 
--- the book has no object, the job's own number of pages, an empty journal, and room in it for the job's own history
+-- the book is empty and has the job's number of pages. Its journal is empty and has room for `job.history` entries
 pub record IsBookOf (job : Job) (book : Book) : Type 0 where
   pub memory : memory_of_book book ≡ empty_memory
   pub table : table_of_book book ≡ empty_table job.pages
   pub entries : book.entries ≡ []
   pub room : book.room ≡ job.history
 
--- why a job gave no text of a run
+-- what holds of the job if its run gave no text for this error. The errors of a device or of the text aren't possible
 abbrev pub IsNoRun : Job → ThreadsError → Type 0
 IsNoRun job (Replay Read) = ⊥
 IsNoRun job (Replay Write) = ⊥
@@ -124,20 +126,20 @@ threads_text TooShort = codes "history too short"
 threads_text Thread = codes "thread fault"
 threads_text Run = codes "run fault"
 
--- an error's status: 2 where the file is at fault, else 1
+-- an error's status: 2 if the text has a fault or the job's history is too short, otherwise 1
 abbrev pub threads_status : ThreadsError → ℕ
 threads_status (Replay error) = status_of_error error
 threads_status TooShort = 2
 threads_status Thread = 1
 threads_status Run = 1
 
--- a run of scripts in threads ends
+-- how a run of scripts in threads ends
 abbrev pub EndsThreads : Printed → Seen → Seen → ℕ → Type 0
 EndsThreads printed before after status =
     EndsBy threads_status threads_text HasFailedRun (HasWrittenRun printed) (HasStoppedRun printed) before after status
 
--- an error that stops threads stops the run: an allocation failure and a thread that failed as such, and any other
--- cause of a missing history as a run that failed, which includes an allocation failure in `finish`
+-- the run's error for an error that stops its threads. An allocation failure and a failed thread are reported as such.
+-- Any other cause of a missing history is a failed run, even an allocation failure in `finish`
 abbrev pub stop_of : RunError → ThreadsError
 stop_of RunMemory = Replay NoMemory
 stop_of RunThread = Thread

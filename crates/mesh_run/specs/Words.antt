@@ -1,4 +1,4 @@
--- The words of the shuffles, by the generator's own definition.
+-- The words of the shuffles, by the definition of their generator.
 use Rattle.std.specs.Prelude.{ℕ, ◌*◌, List}
 use Rattle.rand_core.specs.Steps.{first_words}
 use Rattle.rand_xoshiro.specs.SplitMix64.{splitmix_seed}
@@ -8,6 +8,6 @@ use Rattle.rand_xoshiro.specs.Xoshiro256.{of_seed, plus_plus}
 abbrev pub state_of : ℕ → List ℕ
 state_of seed = of_seed (splitmix_seed 32 seed)
 
--- the words of so many rounds, 256 for each: the first words of xoshiro256++ from the state of this seed
+-- the words for this number of rounds, 256 for each: the first words of xoshiro256++ in the state of this seed
 abbrev pub words_of : ℕ → ℕ → List ℕ
 words_of seed rounds = first_words plus_plus (256 * rounds) (state_of seed)

@@ -1,7 +1,7 @@
 //! The gate: points at which a test may stop a thread.
 use model_words::StepKind;
 
-/// Who arrives at a gate.
+/// The actor that arrives at a gate.
 #[derive(Clone, Copy, Debug, PartialEq, Eq)]
 pub enum Actor {
     /// A worker, by its number.
@@ -12,7 +12,7 @@ pub enum Actor {
     Searcher(u32),
 }
 
-/// A point at which an actor arrives. The lock is not held there, except at `Reading`.
+/// A point at which an actor arrives. Only at `Reading` the actor holds the lock.
 #[derive(Clone, Copy, Debug, PartialEq, Eq)]
 pub enum Point {
     /// A worker's call, counted from 0, has returned.
@@ -27,7 +27,7 @@ pub enum Point {
     Reading(u32),
 }
 
-/// Is called when a thread arrives at a point. It may wait, and promises nothing.
+/// A trait whose method is called when a thread arrives at a point. The method may wait, and promises nothing.
 pub trait Gate {
     /// Reports that an actor has arrived at a point.
     fn arrive(&self, actor: Actor, point: Point);

@@ -4,9 +4,9 @@
 //! candidates, cuts the order into two lists and tries these lists against one another in rounds. `split_mesh` does the
 //! same with a given order.
 //!
-//! `search` runs each round on as many scoped threads as it has workers, and returns the same pairs. `search_one` is
-//! the faster call for every view that a heap has. A contract sees a view as the definition does: its candidates, each
-//! a number and a set of slots.
+//! `search` runs each round on as many scoped threads as it has workers, and returns the same pairs. For every view
+//! that a heap has, `search_one` is faster. A contract sees a view as the definition does: its candidates, each a
+//! number and a set of slots.
 #![tactic(auto)]
 
 mod blocks;

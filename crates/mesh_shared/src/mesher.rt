@@ -24,7 +24,7 @@ pub(crate) struct Mesher<'a, R, G> {
     pub gate: &'a G,
     pub shared: &'a Shared,
     pub plan: &'a MeshPlan,
-    /// Its number among the meshers.
+    /// The mesher's number among the meshers.
     pub number: u32,
 }
 
@@ -35,7 +35,7 @@ pub struct Meshed {
     pub number: u32,
     /// The number of rounds in which each pair that was found was either refused or meshed until no step was left.
     pub rounds: u32,
-    /// The number of its calls that weren't refused, if its calls are limited.
+    /// The number of the mesher's calls that weren't refused, if its calls are limited.
     pub calls: u32,
 }
 
@@ -44,7 +44,7 @@ pub struct Meshed {
 pub(crate) struct MesherEnd {
     /// What the mesher did.
     pub meshed: Meshed,
-    /// Why the mesher ended before it made all rounds. `None` if it made them all, or used up its calls.
+    /// Why the mesher ended before it made all rounds. `None` if it made all rounds, or used up its calls.
     pub stop: Option<EarlyExit>,
 }
 
@@ -206,7 +206,7 @@ impl<'a, R: Threads + Wait + Sync, G: Gate + Sync> Mesher<'a, R, G> {
         ended
     }
 
-    /// Meshes a pair step by step, unless it is refused by now. Returns how many steps were left when the mesher
+    /// Meshes a pair step by step, unless its `begin` is refused. Returns how many steps were left when the mesher
     /// stopped.
     fn mesh_pair(&self, class: Class, pair: Pair, calls: &mut CallBudget) -> Result<u32, Refusal>
         requires { IsUsedUp calls.old → ⊥ }
@@ -261,7 +261,7 @@ fn has_ended(tried: Result<u32, Refusal>) -> bool
     }
 }
 
-/// Returns those of the views of all classes whose place, modulo the number of meshers, is this number.
+/// Returns the views whose place among the views of all classes has the remainder `number` when divided by `meshers`.
 fn own_of(
     alloc: Global,
     all: Vec<ClassView>,

@@ -8,7 +8,7 @@ ghost use Rattle.mesh_shared.specs.MesherRuns.{words_in};
 pub struct MeshPlan {
     /// The greatest number of rounds of tries in a search.
     pub t: u32,
-    /// How many times each mesher searches and meshes.
+    /// The number of rounds of each mesher. In a round a mesher searches and meshes once.
     pub rounds: u32,
     /// The number of searchers that share a search, 1 to 16.
     pub workers: u32,
@@ -20,7 +20,7 @@ pub struct MeshPlan {
 }
 
 impl MeshPlan {
-    /// Returns the words of a round, or those of them that the plan has.
+    /// Returns the words of a round: 256 words, or fewer if the plan has no more.
     pub(crate) fn words_of(&self, round: u32) -> &[u64]
         ensures { result.now ≡ words_in self.now.words.items round }
     {
@@ -31,7 +31,7 @@ impl MeshPlan {
     }
 }
 
-/// How many words a round has.
+/// The number of words of a round.
 const WORDS_A_ROUND: usize = 256;
 
 /// The limits at which the threads of a run stop. `None` means no limit.

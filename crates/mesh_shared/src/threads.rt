@@ -165,7 +165,7 @@ fn ended_of(ran: Ran, scripts: &[&[Command]], plan: &MeshPlan, limits: Limits) -
     ran.ended
 }
 
-/// How many commands each script has.
+/// Returns the number of commands of each script.
 fn counts_of(alloc: Global, scripts: &[&[Command]]) -> Result<Vec<usize>, AllocError>
     ensures { IfOk result (λ counts. vec_len counts ≡ length scripts.now) }
 {
@@ -176,7 +176,7 @@ fn counts_of(alloc: Global, scripts: &[&[Command]]) -> Result<Vec<usize>, AllocE
     Ok(counts)
 }
 
-/// Serves each script from its seat, and meshes meanwhile. Once all threads have ended, it returns the seats, and what
+/// Serves each script from its seat, and meshes meanwhile. Once all threads have ended, returns the seats, and what
 /// each mesher and each worker did.
 fn serve_all<R: Threads + Wait + Sync, G: Gate + Sync>(
     context: RunContext<'_, R, G>,
@@ -237,8 +237,8 @@ fn serve_all<R: Threads + Wait + Sync, G: Gate + Sync>(
     )
 }
 
-/// Starts a thread for each seat, which serves the seat's script, until a thread can't be started. Returns why that
-/// thread couldn't be started, or `None` if all were.
+/// Starts a thread for each seat, which serves the seat's script. Stops at the first thread that couldn't be started,
+/// and returns the reason. Returns `None` if all threads were started.
 fn start_workers<'s, E, R: Threads + Wait + Sync, G: Gate + Sync>(
     scope: &'s Scope<'s, E>,
     context: RunContext<'s, R, G>,

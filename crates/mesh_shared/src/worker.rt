@@ -14,7 +14,7 @@ use std::thread::Promise;
 /// How a worker's script ended in a run.
 #[derive(Clone, Copy)]
 pub struct Worked {
-    /// How many attempts the worker made at the command that it gave up, or 0 if it gave up none.
+    /// The number of attempts that the worker made at the command that it gave up, or 0 if it gave up none.
     pub tried: u32,
 }
 
@@ -60,7 +60,7 @@ pub(crate) fn serve<R: Wait, G: Gate>(
     Served { seat, worked, stop }
 }
 
-/// Makes the calls of a script. Returns how the script ended, and why the worker stopped before its end, if it did.
+/// Makes the calls of a script. Returns how the script ended, and, if the worker stopped before the script's end, why.
 fn work<R: Wait, G: Gate>(
     rt: &R,
     gate: &G,

@@ -46,7 +46,7 @@ impl Extent {
         }
     }
 
-    /// The first virtual page.
+    /// Returns the first virtual page of the span.
     pub fn first(&self) -> u32
         ensures value { result ≡ self.now.first }
         ensures sound { IsSpan self.now }
@@ -54,14 +54,14 @@ impl Extent {
         self.first
     }
 
-    /// The number of the group.
+    /// Returns the number of the span's group.
     pub fn group(&self) -> u32
         ensures { result ≡ self.now.group }
     {
         self.group
     }
 
-    /// The size class.
+    /// Returns the size class of the span.
     pub fn class(&self) -> Class
         ensures value { result ≡ self.now.class }
         ensures sound { IsSpan self.now }
@@ -94,7 +94,7 @@ impl Extent {
         Some((Slot::numbered(slot), from_start % size))
     }
 
-    /// The address of a slot.
+    /// Returns the address of a slot.
     pub fn address(&self, slot: Slot) -> u32
         requires { slot < slots_of self.now.class }
         ensures value { result ≡ address_in self.now slot }

@@ -15,7 +15,7 @@ use mesh_bins::Bin;
 use mesh_class::Class;
 use std::alloc::{AllocError, Global};
 
-/// How many bins there are: three for each of the ten classes.
+/// The number of bins: three for each of the ten classes.
 const BINS: usize = 30;
 
 /// How a group is filed.
@@ -43,7 +43,7 @@ impl Filed {
     }
 }
 
-/// Makes the bins, with no group in any of them. It allocates all the memory that they will ever use.
+/// Makes the bins, with no group in any of them, and allocates all the memory that the bins will ever use.
 pub(crate) fn new_bins(alloc: Global) -> Result<Vec<Bin>, AllocError>
     ensures long { IfOk result (λ bins. length bins.items ≡ 30) }
     ensures none { IfOk result (λ bins. (place : ℕ) → bin_at bins.items place ≡ set.empty) }
@@ -55,7 +55,7 @@ pub(crate) fn new_bins(alloc: Global) -> Result<Vec<Bin>, AllocError>
     Ok(bins)
 }
 
-/// The bin that a group is to be filed in, or `None` if it belongs in none.
+/// Returns the bin of a group, or `None` if the group belongs in no bin.
 fn bin_of(group: &Option<Group>) -> Option<u32>
     ensures bin { result ≡ file_of group.now }
     ensures few { IfSome result (λ place. place < 30) }
@@ -127,7 +127,7 @@ pub(crate) fn file(bins: &mut Vec<Bin>, n: u32, place: Option<u32>)
     }
 }
 
-/// The lowest group of the class that is in no mesh and has a free slot, or `None` if there is no such group.
+/// Returns the lowest group of the class that is in no mesh and has a free slot, or `None` if there is no such group.
 pub(crate) fn lowest_open(bins: &[Bin], class: Class) -> Option<u32>
     requires sized { length bins.now ≡ 30 }
     ensures place { class_index class < 10 }
@@ -144,8 +144,8 @@ pub(crate) fn lowest_open(bins: &[Bin], class: Class) -> Option<u32>
     )
 }
 
-/// The lowest group of the class from a number on that is in no mesh, not empty and not full, or `None` if there is no
-/// such group.
+/// Returns the lowest group of the class at or above a number that is in no mesh, not empty and not full. Returns
+/// `None` if there is no such group.
 pub(crate) fn lowest_partial(bins: &[Bin], class: Class, from: u32) -> Option<u32>
     requires sized { length bins.now ≡ 30 }
     ensures place { class_index class < 10 }
@@ -156,7 +156,7 @@ pub(crate) fn lowest_partial(bins: &[Bin], class: Class, from: u32) -> Option<u3
     bins[partial as usize].least(from)
 }
 
-/// The lower of two numbers.
+/// Returns the lower of two numbers.
 fn lower(a: Option<u32>, b: Option<u32>) -> Option<u32>
     ensures { result ≡ lower_of a b }
 {

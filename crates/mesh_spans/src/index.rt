@@ -122,8 +122,8 @@ impl Spans {
         Some((group.first_member(), slot))
     }
 
-    /// The lowest group of the class at or above `from` that is in no mesh, not empty and not full. `None` only if
-    /// there is no such group.
+    /// Returns the lowest group of the class at or above `from` that is in no mesh, not empty and not full. `None` only
+    /// if there is no such group.
     pub fn next_candidate(&self, class: Class, from: u32) -> Option<u32>
         ensures least { IsLeast (λ n. is_partial (group_at self.now.groups n) class) from 65536 result }
         ensures table { result ≡ option_map (λ g. g.number)
@@ -171,7 +171,7 @@ impl Spans {
         self.groups.put(group, slot, None);
     }
 
-    /// Marks a group as being in a mesh. It then takes no new objects.
+    /// Marks a group as being in a mesh. The group then gets no new objects.
     pub fn close(&mut self, n: u32)
         requires { IsSome (group_at self.old.groups n) }
         ensures spans { self.new.spans ≡ self.old.spans }
@@ -221,7 +221,8 @@ impl Spans {
         self.groups.take(n);
     }
 
-    /// The counts over all groups: their live objects, the bytes of these, and the virtual pages of their members.
+    /// Returns the counts over all groups: the live objects, the bytes of the live objects, and the virtual pages of
+    /// all members.
     ///
     /// The counts are updated as groups change. This call visits no group.
     pub fn totals(&self) -> Totals
@@ -263,7 +264,7 @@ impl Spans {
         Some((span, slot, offset))
     }
 
-    /// The first virtual page of a span.
+    /// Returns the first virtual page of a span.
     pub fn first_page(&self, span: Span) -> u32
         requires { span < length self.now.spans }
         ensures value { result ≡ (span_at self.now.spans span).first }
@@ -272,7 +273,7 @@ impl Spans {
         self.extent(span).first()
     }
 
-    /// The size class of a span.
+    /// Returns the size class of a span.
     pub fn class_of(&self, span: Span) -> Class
         requires { span < length self.now.spans }
         ensures { result ≡ (span_at self.now.spans span).class }
@@ -280,7 +281,7 @@ impl Spans {
         self.extent(span).class()
     }
 
-    /// The address of a slot of a span.
+    /// Returns the address of a slot of a span.
     pub fn address(&self, span: Span, slot: Slot) -> u32
         requires span { span < length self.now.spans }
         requires slot { slot < slots_of (span_at self.now.spans span).class }
@@ -313,7 +314,7 @@ impl Spans {
         Some(span)
     }
 
-    /// The location of a span.
+    /// Returns the location of a span.
     fn extent(&self, span: Span) -> &Extent
         requires { span < length self.now.spans }
         ensures { result.now ≡ span_at self.now.spans span }

@@ -18,14 +18,14 @@ impl Model for Span {
 }
 
 impl Span {
-    /// The span's place in a list of all spans.
+    /// Returns the span's place in a list of all spans.
     pub(crate) fn index(self) -> usize
         ensures { result ≡ self }
     {
         self.0 as usize
     }
 
-    /// The span of this number.
+    /// Returns the span with this number.
     pub fn numbered(number: u32) -> Span
         ensures { result ≡ number }
     {
@@ -48,14 +48,14 @@ impl Model for Slot {
 }
 
 impl Slot {
-    /// The slot of this number.
+    /// Returns the slot with this number.
     pub fn numbered(number: u32) -> Slot
         ensures { result ≡ number }
     {
         Slot(number)
     }
 
-    /// The slot's number.
+    /// Returns the slot's number.
     pub fn number(self) -> u32
         ensures { result ≡ self }
     {

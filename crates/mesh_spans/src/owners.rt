@@ -7,7 +7,7 @@ use crate::extent::PAGE_BYTES;
 use std::alloc::{AllocError, Global};
 use std::marker::Model;
 
-/// How many numbers of virtual pages there are, including the unused number 0.
+/// The count of virtual page numbers, with the unused number 0.
 const VIRTUAL_PAGES: usize = 65_536;
 
 /// For each virtual page number, the span that owns the page.

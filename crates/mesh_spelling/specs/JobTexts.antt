@@ -5,7 +5,7 @@ use Rattle.model_jobs.specs.Jobs.{Job, Line}
 use Rattle.model_jobs.specs.Texts.{command_text, ended, line_text, number_field, sections_from, text, version_number}
 use Rattle.model_words.specs.declared.commands.Command.{Command}
 
--- a command's line, with its end
+-- the line of a command, with its end
 abbrev pub command_line : Command → List ℕ
 command_line command = ended (command_text command)
 
@@ -19,7 +19,7 @@ header_text job =
     ended (codes "mesh" ++ number_field (version_number job.version)) ++ ended (codes "pages" ++ number_field job.pages)
     ++ ended (codes "history" ++ number_field job.history) ++ ended (codes "workers" ++ number_field (length job.scripts))
 
--- the sections of the workers
+-- the sections of all workers
 abbrev pub sections_text : List (List Command) → List ℕ
 sections_text scripts = flat_map ended (sections_from 0 scripts)
 
@@ -27,10 +27,10 @@ sections_text scripts = flat_map ended (sections_from 0 scripts)
 abbrev pub begun_text : Job → List ℕ
 begun_text job = header_text job ++ sections_text job.scripts ++ ended (codes "plan") ++ flat_map line_line job.plan
 
--- the job with more lines behind its plan
+-- the job with more lines at the end of its plan
 abbrev pub longer_job : Job → List Line → Job
 longer_job job more = record job { plan = job.plan ++ more }
 
--- a job with more lines behind its plan has the same text up to them
+-- if lines are added to the end of a plan, the text of the job is unchanged up to these lines
 abbrev pub BegunTextsGoOn : Type 0
 BegunTextsGoOn = (job : Job) (more : List Line) → text (longer_job job more) ≡ begun_text job ++ flat_map line_line more ++ ended (codes "end")

@@ -1,4 +1,4 @@
--- A worked recorded history and its text: two workers take turns, and each kind of command and of answer has a line.
+-- A worked example of a recorded history and its text: each kind of command and answer has a line.
 use Rattle.std.specs.Prelude.{◌≡◌, List, [], ◌∷◌, ◌++◌, codes}
 use Rattle.model_memory.specs.Plain.{Entry}
 use Rattle.model_words.specs.declared.commands.Command.TheVariants.{New, Put, Get, Free, Alias, Addr, Peek, Poke, Copy as CopyBytes}
@@ -6,7 +6,7 @@ use Rattle.model_words.specs.declared.commands.Reply.TheVariants.{Object as Made
 use Rattle.model_words.specs.declared.refusals.Refusal.TheVariants.{Freed}
 use Rattle.mesh_spelling.specs.Recordings.{recorded_text}
 
--- two workers whose entries alternate, with a command and an answer of each kind
+-- the entries of two workers, in turn, and a last one of worker 12, with a command and an answer of each kind
 abbrev pub recorded : List Entry
 recorded =
     record { worker = 1; command = New 1 64 18446744073709551615; reply = Made 0 4096 } ∷ record { worker = 0; command = New 0 16 7; reply = Made 1 8192 }
@@ -16,11 +16,11 @@ recorded =
     ∷ record { worker = 1; command = CopyBytes 0 4 2 1 1; reply = Done } ∷ record { worker = 0; command = Free 0; reply = Done }
     ∷ record { worker = 12; command = Free 0; reply = Refused Freed } ∷ []
 
--- no entry: the line of the format alone
+-- without entries, the text is the line of the format alone
 abbrev pub NoneIsRecorded : Type 0
 NoneIsRecorded = recorded_text [] ≡ codes "history 1\n"
 
--- a line for each entry, in their order
+-- the text has a line for each entry, in the order of the entries
 abbrev pub EachIsRecorded : Type 0
 EachIsRecorded = recorded_text recorded
     ≡ codes "history 1\n1 new 1 64 18446744073709551615 -> object 0 at 1000\n0 new 0 16 7 -> object 1 at 2000\n1 put 1 0 6869 -> done\n"

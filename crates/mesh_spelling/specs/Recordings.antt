@@ -1,18 +1,18 @@
--- The text of a recorded history: which worker asked for what, and what it was answered. This project's own choice.
+-- The text of a recorded history: each entry's worker, command and answer. This project's own choice.
 use Rattle.std.specs.Prelude.{ℕ, List, ◌++◌, codes, decimal}
 use Rattle.std.specs.List.{flat_map}
 use Rattle.model_memory.specs.Plain.{Entry}
 use Rattle.model_jobs.specs.Texts.{command_text, ended, field, reply_text}
 
--- an entry's line, without its end: the worker, its command, and what it was answered
+-- the line of an entry, without its end: the worker, its command, and the reply
 abbrev pub entry_text : Entry → List ℕ
 entry_text entry = decimal entry.worker ++ field (command_text entry.command) ++ codes " -> " ++ reply_text entry.reply
 
--- the line with its end
+-- the line of an entry, with its end
 abbrev pub entry_line : Entry → List ℕ
 entry_line entry = ended (entry_text entry)
 
--- the line that begins a recorded history, with its end: the version of the format
+-- the first line of a recorded history, with its end: the version of the format
 abbrev pub recorded_head : List ℕ
 recorded_head = ended (codes "history 1")
 

@@ -9,19 +9,19 @@ use Rattle.mesh_devices.specs.Transfer.{AppendsBeginning}
 use Rattle.mesh_devices.specs.declared.faults.ReplayError.{ReplayError}
 use Rattle.mesh_devices.specs.declared.faults.ReplayError.TheVariants.{Read, Write, Text, Memory}
 
--- the answered commands that the plan of a job leaves in its journal
+-- the journal that the plan of a job leaves
 abbrev pub journal_of : Job → List Entry
 journal_of job = (state_after job (initial_state job) job.plan).entries
 
--- the input was read to its end, and the recorded history of its job's journal was written
+-- the input, a job, was read to its end, and the recorded history of the job's journal was written
 abbrev pub HasReplayedRecorded : Option (List ℕ) → Option (List ℕ) → Option (List ℕ) → Option (List ℕ) → Type 0
 HasReplayedRecorded left left' written written' = HasPlayed left left' (λ job. Appends written written' (recorded_text (journal_of job)))
 
--- the input was read to its end, and a beginning of the recorded history of its job's journal was written
+-- the input, a job, was read to its end, and a beginning of the recorded history of the job's journal was written
 abbrev pub HasBegunRecorded : Option (List ℕ) → Option (List ℕ) → Option (List ℕ) → Option (List ℕ) → Type 0
 HasBegunRecorded left left' written written' = HasPlayed left left' (λ job. AppendsBeginning written written' (recorded_text (journal_of job)))
 
--- what was read and written, by the error that a recorded replay stopped for
+-- what was read and written before a recorded replay stopped for this error
 abbrev pub HasStoppedRecorded : Option (List ℕ) → Option (List ℕ) → Option (List ℕ) → Option (List ℕ) → ReplayError → Type 0
 HasStoppedRecorded left left' written written' Read = Keeps written written'
 HasStoppedRecorded left left' written written' Write = HasBegunRecorded left left' written written'

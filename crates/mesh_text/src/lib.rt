@@ -7,9 +7,9 @@
 //! `replay_recorded` writes the journal that the plan leaves instead of the answers, as a recorded history. `read_job`
 //! reads only the job. `Turns` plays a plan line by line.
 //!
-//! The job and the reader of its file are those of `mesh_job`, and the text of an answer is that of `mesh_spelling`.
-//! Contracts see of a device what it has left or what it took, as far as that is known, and whether one of its calls
-//! has failed.
+//! `mesh_job` defines the job and reads its file, and `mesh_spelling` defines the text of an answer. In contracts, a
+//! device has the bytes that are left to read or that it accepted, as far as they are known, and whether one of its
+//! calls has failed.
 #![tactic(auto)]
 
 mod mesher;

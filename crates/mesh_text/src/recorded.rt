@@ -66,7 +66,7 @@ fn recorded_play(alloc: Global, job: &Job) -> Result<Vec<u8>, AllocError>
     recorded_journal(alloc, turns.book().journal())
 }
 
-/// Plays all lines of a job's plan. Their answers are dropped.
+/// Plays all lines of a job's plan, and drops the answers.
 fn play_all(alloc: Global, job: &Job, turns: &mut Turns) -> Result<(), AllocError>
     requires { StandsBehind job.now 0 turns.old }
     ensures { OnOk result (StandsBehind job.now (length job.now.plan) turns.new) }

@@ -13,7 +13,7 @@ use mesh_devices::{ReplayError, Sink, Source, write_lines};
 use mesh_job::Job;
 use std::alloc::Global;
 
-/// How many bytes of answers are collected before they are written.
+/// The number of bytes of answers that are collected before they are written.
 const CHUNK_BYTES: usize = 8192;
 
 /// Replays the job file that the input gives, and writes the answer lines of its plan.

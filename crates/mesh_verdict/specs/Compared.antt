@@ -2,12 +2,12 @@
 use Rattle.std.specs.Prelude.{◌≡◌, ◌⊎◌, ◌++◌, ◌∷◌, [], ℕ, List, Some, slice_get}
 use Rattle.mesh_reach.specs.Reach.{IsAbsent}
 
--- at a place is a text that is none of the others
+-- the text at a place is none of the others
 pub record IsAbsentAt (texts others : List (List ℕ)) (place : ℕ) : Type 0 where
   pub text : List ℕ
   pub there : slice_get texts place ≡ Some text
   pub absent : IsAbsent others text
 
--- the list grew by this one where that holds, and else is as it was
+-- if P holds, this element was added at the end of the list. Otherwise the list is unchanged
 abbrev pub GrowsWhere : {A : Type 0} → Type 0 → List A → List A → A → Type 0
 GrowsWhere P xs xs' x = (P × (xs' ≡ xs ++ x ∷ [])) ⊎ ((P → ⊥) × (xs' ≡ xs))

@@ -1,4 +1,4 @@
--- The verdict over a listing: its outcomes are those that a text lists, or which are missing and which are too many.
+-- The verdict on a listing: its outcomes are those that a text lists, or some outcomes are missing or unexpected.
 use Rattle.std.specs.Prelude.{◌≡◌, ◌↔◌, ℕ, List, [], Some, slice_get}
 use Rattle.model_words.specs.declared.commands.Reply.{Reply}
 use Rattle.mesh_explore.specs.ExploreStates.{ExploreState}
@@ -8,11 +8,11 @@ use Rattle.mesh_explore_text.specs.ToldTexts.{told_text}
 use Rattle.mesh_explore_text.specs.declared.outcomes.Outcome.{Outcome}
 use Rattle.mesh_verdict.specs.declared.judging.Verdict.{Verdict}
 
--- each outcome has the place of one of the states
+-- each outcome's place is that of a state
 abbrev pub HaveStates : List ExploreState → List Outcome → Type 0
 HaveStates states outcomes = (outcome : Outcome) → IsKept outcomes outcome → (s : ExploreState) × (slice_get states outcome.place ≡ Some s)
 
--- the text is that of the workers' replies at a place
+-- the text is that of the workers' replies in the state at a place
 pub record IsTextAt (states : List ExploreState) (place : ℕ) (text : List ℕ) : Type 0 where
   pub told : List (List Reply)
   pub there : IsToldAt states place told
@@ -22,11 +22,11 @@ pub record IsTextAt (states : List ExploreState) (place : ℕ) (text : List ℕ)
 abbrev pub IsTextOfOne : List ExploreState → List Outcome → List ℕ → Type 0
 IsTextOfOne states outcomes text = (told : List (List Reply)) × (IsOutcome states outcomes told × (text ≡ told_text told))
 
--- the block is that of no outcome
+-- the block is one of the blocks, but the text of no outcome
 abbrev pub IsMissing : List ExploreState → List Outcome → List (List ℕ) → List ℕ → Type 0
 IsMissing states outcomes blocks block = IsKept blocks block × (IsTextOfOne states outcomes block → ⊥)
 
--- at a place of the outcomes is one whose text is none of the blocks
+-- the text of the outcome at a place is none of the blocks
 pub record IsUnexpected (states : List ExploreState) (outcomes : List Outcome) (blocks : List (List ℕ)) (place : ℕ) : Type 0 where
   pub outcome : Outcome
   pub there : slice_get outcomes place ≡ Some outcome
@@ -34,12 +34,13 @@ pub record IsUnexpected (states : List ExploreState) (outcomes : List Outcome) (
   pub is_text : IsTextAt states outcome.place text
   pub absent : IsAbsent blocks text
 
--- nothing is missing and nothing is too many
+-- no outcome is missing, and none is unexpected
 pub record IsClean (verdict : Verdict) : Type 0 where
   pub missing : verdict.missing.items ≡ []
   pub unexpected : verdict.unexpected.items ≡ []
 
--- the outcomes are those that the blocks list: the text of each is a block, and each block is the text of one
+-- the outcomes are those that the blocks list: the text of each outcome is a block, and each block is the text of an
+-- outcome
 pub record AreAsExpected (states : List ExploreState) (outcomes : List Outcome) (blocks : List (List ℕ)) : Type 0 where
   pub listed : (told : List (List Reply)) → IsOutcome states outcomes told → IsKept blocks (told_text told)
   pub had : (block : List ℕ) → IsKept blocks block → IsTextOfOne states outcomes block

@@ -6,13 +6,13 @@ use Rattle.mesh_explore_text.specs.Listings.{IsToldAt}
 use Rattle.mesh_explore_text.specs.declared.outcomes.Outcome.{Outcome}
 use Rattle.mesh_verdict.specs.Patterns.{Wanted, any_match}
 
--- whether the workers' replies at a place match one of the patterns
+-- `is` is whether the workers' replies in the state at a place match one of the patterns
 pub record IsMatchAt (states : List ExploreState) (place : ℕ) (patterns : List Wanted) (is : Bool) : Type 0 where
   pub told : List (List Reply)
   pub there : IsToldAt states place told
   pub matches : is ≡ any_match patterns told
 
--- at a place of the outcomes is one that matches one of the patterns
+-- the outcome at a place matches one of the patterns
 pub record IsForbidden (states : List ExploreState) (outcomes : List Outcome) (patterns : List Wanted) (place : ℕ) : Type 0 where
   pub outcome : Outcome
   pub there : slice_get outcomes place ≡ Some outcome

@@ -7,48 +7,47 @@ use Rattle.model_jobs.specs.Texts.{reply_text}
 use Rattle.model_words.specs.declared.commands.Reply.{Reply}
 use Rattle.model_words.specs.declared.faults.FaultKind.{FaultKind}
 
--- a worker, and what each of its replies is to be: a piece is the reply's text between two spaces, or ` * ` for any
--- reply
+-- a worker, and a piece for each of its replies. A piece is a reply's text between two spaces, or ` * ` for any reply
 pub record Wanted : Type 0 where
   pub worker : ℕ
   pub pieces : List (List ℕ)
 
 -- ---- which outcomes match
 
--- a reply as a piece
+-- the piece of a reply: its text between two spaces
 abbrev pub piece_of : Reply → List ℕ
 piece_of reply = codes " " ++ reply_text reply ++ codes " "
 
--- the reply has the piece's text, or any will do
+-- whether a reply matches a piece: the piece is ` * `, or the reply's text between two spaces
 abbrev pub is_met : List ℕ → Reply → Bool
 is_met piece reply = are_same piece (codes " * ") || are_same piece (piece_of reply)
 
--- the replies are as many as the pieces, and each is its piece's
+-- whether there are equally many pieces and replies, and each reply matches its piece
 abbrev pub are_met : List (List ℕ) → List Reply → Bool
 are_met [] [] = true
 are_met [] (reply ∷ replies) = false
 are_met (piece ∷ pieces) [] = false
 are_met (piece ∷ pieces) (reply ∷ replies) = is_met piece reply && are_met pieces replies
 
--- the worker has the replies that the pattern requires
+-- whether the worker has the replies that the pattern requires
 abbrev pub is_match : Wanted → List (List Reply) → Bool
 is_match wanted told = are_met wanted.pieces (slice_index_or told wanted.worker [])
 
--- the workers' replies match one of the patterns
+-- whether the workers' replies match one of the patterns
 abbrev pub any_match : List Wanted → List (List Reply) → Bool
 any_match patterns told = list_any (λ wanted. is_match wanted told) patterns
 
 -- ---- how a pattern is spelt: `worker W: ANSWER | ANSWER ..`
 
--- the text behind its front, where it has that front
+-- the text after `front`, or None if the text doesn't begin with `front`
 abbrev pub behind : List ℕ → List ℕ → Option (List ℕ)
 behind front text = if pointwise nat_eq (take (length front) text) front then Some (drop (length front) text) else None
 
--- something between two spaces
+-- whether this is at least one byte between two spaces
 abbrev pub is_piece : List ℕ → Bool
 is_piece piece = starts_with nat_eq piece (codes " ") && ends_with nat_eq piece (codes " ") && nat_le 3 (length piece)
 
--- the pieces of the answers, which have a space at their end
+-- the pieces of the answers, split at each `|`. The answers end with a space
 abbrev pub pieces_of : List ℕ → List (List ℕ)
 pieces_of answers = slice_split (λ b. nat_eq b 124) answers
 
@@ -59,7 +58,7 @@ abbrev pub of_number : Result ℕ FaultKind → List ℕ → Option Wanted
 of_number (Err fault) answers = None
 of_number (Ok worker) answers = of_pieces worker (pieces_of (answers ++ codes " "))
 
--- the number and the answers, between which is the one colon
+-- the pattern of a number and answers, with exactly one colon between them. The number is at most 63
 abbrev pub of_sides : List (List ℕ) → Option Wanted
 of_sides [] = None
 of_sides (number ∷ []) = None
@@ -69,6 +68,6 @@ of_sides (number ∷ answers ∷ more ∷ sides) = None
 abbrev pub sides_of : List ℕ → Option Wanted
 sides_of text = of_sides (slice_split (λ b. nat_eq b 58) text)
 
--- the pattern that a text spells
+-- the pattern that a text spells, or None if it spells none
 abbrev pub pattern_of : List ℕ → Option Wanted
 pattern_of text = option_and_then sides_of (behind (codes "worker ") text)

@@ -14,12 +14,13 @@ pub fn meaning_stays_with_bytes()
     ensures { SameBytesSameMeaning }
 {}
 
-/// Storing bytes at the places of an object's addresses stores them in that object of the memory that the heap means.
+/// If bytes are stored at the places of an object's addresses, they are stored in that object of the memory that the
+/// heap means.
 pub fn store_changes_meaning()
     ensures { StoreChangesMeaning }
 {}
 
-/// Taking an object out of the table frees it in the memory that the heap means.
+/// If an object is removed from the table, it is freed in the memory that the heap means.
 pub fn free_changes_meaning()
     ensures { FreeChangesMeaning }
 {}

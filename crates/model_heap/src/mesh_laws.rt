@@ -2,14 +2,14 @@
 //! refused. Each is the contract of a function that does nothing.
 ghost use Rattle.model_heap.specs.MeshLaws.{WholeIsAllSteps, StepsLeaveGroups, UnwindingLeavesGroups, CancelLeavesGroups, BeginAnswersAllSteps, BeginLeavesSteps, StepTakesOne, LastStepEnds, OthersKeepTheirSteps, StepsCountDown, CancelAnswersLeft, CancelOfNoneEnds, WholeIsAllStepsOfClass, WholeIsAllStepsAlone, WholeIsAllStepsBeside, SoundHasOneAClass, BeginKeepsOneAClass, WholeKeepsOneAClass, StepKeepsOneAClass, CancelKeepsOneAClass, MeshInIsOfClass, ClassHasMesh, StepIsRefusedWithoutMesh, CancelIsRefusedWithoutMesh, CancelIsRefusedLate, CancelHasTwoRefusals};
 
-/// `begin` answers the number of all steps of the mesh. After it, that number of steps is to come.
+/// `begin` returns the number of all steps of the mesh. After `begin`, this number of steps is left.
 pub fn begin_answers_all_steps()
     ensures answered { BeginAnswersAllSteps }
     ensures to_come { BeginLeavesSteps }
 {}
 
-/// Each step lowers the number of steps to come of its class by one, and leaves that of every other class unchanged.
-/// The mesh is over when none is left.
+/// A step of a class lowers the number of steps left in the class's mesh by one. The numbers of the other classes don't
+/// change. The mesh is over when no step is left.
 pub fn steps_count_down()
     ensures one { StepTakesOne }
     ensures last { LastStepEnds }
@@ -17,13 +17,13 @@ pub fn steps_count_down()
     ensures many { StepsCountDown }
 {}
 
-/// A cancel answers the number of steps that are left. The mesh is over if none is left.
+/// A cancel returns the number of steps that are left. The mesh is over if no step is left.
 pub fn cancel_answers_left()
     ensures left { CancelAnswersLeft }
     ensures none { CancelOfNoneEnds }
 {}
 
-/// A whole mesh is `begin` and all steps of its class, whichever meshes of other classes are running.
+/// A whole mesh is `begin` and all steps of its class, even if meshes of other classes are running.
 pub fn whole_mesh_is_all_steps_of_its_class()
     ensures tested { WholeIsAllStepsOfClass }
     ensures any { WholeIsAllStepsAlone }
@@ -45,8 +45,8 @@ pub fn mesh_of_class_is_found()
     ensures some { ClassHasMesh }
 {}
 
-/// A step of a class is refused only if no mesh of the class runs. A cancel is refused only then, or if the mesh has
-/// remapped a page.
+/// A step of a class is refused only if no mesh of the class runs. A cancel is refused only if no mesh of the class
+/// runs or the mesh has remapped a page.
 pub fn steps_and_cancels_are_refused()
     ensures step { StepIsRefusedWithoutMesh }
     ensures none { CancelIsRefusedWithoutMesh }
@@ -59,8 +59,8 @@ pub fn whole_mesh_is_all_steps()
     ensures { WholeIsAllSteps }
 {}
 
-/// Until its last release, a mesh leaves each group unchanged, and with it the address and the slot of every object. A
-/// cancelled mesh leaves them unchanged to its end.
+/// Until its last release, a mesh changes no group, and so no address and no slot of an object. A cancelled mesh
+/// changes none to its end.
 pub fn meshing_leaves_groups()
     ensures steps { StepsLeaveGroups }
     ensures unwinding { UnwindingLeavesGroups }

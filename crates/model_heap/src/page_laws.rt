@@ -15,7 +15,7 @@ pub fn pages_are_counted()
     ensures cancelled { CancelKeepsCount }
 {}
 
-/// A sweep and a whole mesh answer the number of pages that become free.
+/// A sweep and a whole mesh return the number of pages that become free.
 pub fn freed_pages_are_answered()
     ensures swept { SweepAnswersPages }
     ensures whole { WholeAnswersPages }

@@ -1,28 +1,26 @@
-//! Laws of refusals: when each holds, regardless of the others, and that the answer is exactly the lowest of those that
-//! hold. Each is the contract of a function that does nothing.
+//! Laws of refusals: when each refusal holds, independently of the others, and that the answer is the lowest refusal
+//! that holds. Each law is the contract of a function that does nothing.
 ghost use Rattle.model_heap.specs.RefusalLaws.{BeginIsRefusedByLowest, WholeIsRefusedByLowest, SweepIsRefusedByLowest, StepIsRefusedByLowest, CancelIsRefusedByLowest, NewIsRefusedByLowest};
 
-/// A `begin` and a whole mesh are refused with exactly the lowest of the refusals that hold, whichever classes are
-/// busy.
+/// A `begin` and a whole mesh are refused with the lowest refusal that holds, whichever classes are busy.
 pub fn meshes_are_refused_by_lowest()
     ensures begin { BeginIsRefusedByLowest }
     ensures whole { WholeIsRefusedByLowest }
 {}
 
-/// A sweep is refused with exactly the lowest of the refusals that hold. The refusal BUSY holds if the group is in a
-/// running mesh.
+/// A sweep is refused with the lowest refusal that holds. The refusal BUSY holds if the group is in a running mesh.
 pub fn sweeps_are_refused_by_lowest()
     ensures { SweepIsRefusedByLowest }
 {}
 
-/// For any test of meshes, a step and a cancel of the first mesh that passes the test are refused with exactly the
-/// lowest of the refusals that hold.
+/// For any test of meshes, a step and a cancel of the first mesh that passes the test are refused with the lowest
+/// refusal that holds.
 pub fn steps_are_refused_by_lowest()
     ensures step { StepIsRefusedByLowest }
     ensures cancel { CancelIsRefusedByLowest }
 {}
 
-/// A new object is refused with exactly the lowest of the refusals that hold.
+/// A new object is refused with the lowest refusal that holds.
 pub fn new_is_refused_by_lowest()
     ensures { NewIsRefusedByLowest }
 {}

@@ -63,7 +63,7 @@ pub fn new_is_apart()
     ensures vacant { NewIsVacant }
 {}
 
-/// Each of the two tests for a running mesh (of any class, of this class) is a busy test: if it returns false for a
+/// Each of the two tests for a running mesh (of any class, and of one class) is a busy test: if the test is false for a
 /// class, no mesh of that class is running.
 pub fn busy_tests()
     ensures any { AnyTellsBusy }

@@ -8,14 +8,14 @@ pub fn live_objects_keep_their_addresses()
     ensures runs { RunsKeepAddress }
 {}
 
-/// A serial that was used and isn't live never becomes live again, and none is used twice.
+/// A serial that was used and isn't live never becomes live again, and no serial is used twice.
 pub fn freed_objects_stay_freed()
     ensures serials { SerialsGoUp }
     ensures step { FreedStaysFreed }
 {}
 
-/// An object that a legal history made keeps the address in the reply to its `new` until a later entry frees it. From
-/// then on the object isn't live.
+/// An object that a legal history made keeps the address in the reply to its `new` until a later entry frees it. After
+/// that entry the object isn't live.
 pub fn histories_keep_addresses()
     ensures kept { MadeKeepsAddress }
     ensures gone { FreedIsGone }

@@ -13,7 +13,7 @@ pub fn built_has_calls()
     ensures no_other { BuiltHasNoOther }
 {}
 
-/// At most one read is reported as the first wrong one, and none is reported if all are right.
+/// At most one read is reported as the first wrong read. If all reads are right, none is reported.
 pub fn reads_differ_once()
     ensures right { RightDifferNowhere }
     ensures once { ReadsDifferOnce }

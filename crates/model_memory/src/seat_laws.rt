@@ -2,8 +2,9 @@
 //! that does nothing.
 ghost use Rattle.model_memory.specs.SeatLaws.{CallsHaveCommands, SeatsAreAll, SwappedSeatsAreMissing, StrangersAreMissing, EntriesHaveSeats, FirstDifferenceIsOne, MissingIsLeast, NoneIsMissing, SeatsDifferOnce, SettledDifferNowhere, SeatsSettleOrDiffer};
 
-/// The missing seat is the least place without its own seat. If each place has its own, it is the count if there is a
-/// stranger (a seat too many, or an entry of a worker without a seat); otherwise no seat is missing.
+/// The missing seat is the least place without its own seat. If each place has its own seat, the missing seat is the
+/// count if there is a stranger (a seat too many, or an entry of a worker without a seat). Otherwise no seat is
+/// missing.
 pub fn missing_seat_is_least()
     ensures some { MissingIsLeast }
     ensures none { NoneIsMissing }

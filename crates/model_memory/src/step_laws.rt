@@ -8,8 +8,8 @@ pub fn objects_are_made_apart()
     ensures next { MadeIsNext }
 {}
 
-/// A `new` is refused for its length if the length is wrong. If the length is right, it is refused only for lack of
-/// room.
+/// A `new` is refused as ZERO or TOO_LARGE if and only if its length is wrong. If the length is right, it is refused
+/// only for lack of room.
 pub fn new_refusals_are_by_length()
     ensures zero { ZeroIsOfNone }
     ensures too_large { TooLargeIsAbove }
@@ -28,8 +28,8 @@ pub fn replies_are_determined()
     ensures room { RoomIsOpen }
 {}
 
-/// The reference memory's function makes reference steps: its reply together with the memory after it is one, and so is
-/// its refusal.
+/// The reference memory's function computes reference steps: its reply with the memory after it is a step, and so is
+/// its refusal with the unchanged memory.
 pub fn plain_is_step()
     ensures done { PlainIsStep }
     ensures refused { PlainRefusalIsStep }
