@@ -184,7 +184,7 @@ def write_trees():
     jobs = [job for job in sorted(EXPLORATIONS.glob("*.job")) if is_few(job)]
     lines = ["//! Explorations of few interleavings. Written by `tools/gen/rows.py`.", "",
              "use mesh_explore::MeshPair;", "",
-             "/// Name, meshes, number of steps after which they are cancelled, and file of each exploration.",
+             "/// The explorations: the name, the meshes, the number of steps before a cancel, and the job file of each.",
              f"pub(crate) static CASES: [(&str, &[MeshPair], Option<u32>, &str); {len(jobs)}] = ["]
     (TREES / "src" / "tests" / "cases.rt").write_text("\n".join(lines + list(map(case, jobs)) + ["];", ""]))
 

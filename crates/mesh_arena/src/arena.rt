@@ -37,7 +37,7 @@ impl Model for Arena {
 impl Arena {
     /// Creates an arena of `pages` free pages, from 1 to 4,096.
     ///
-    /// Allocates all the memory that the arena will ever use. An error is an allocation failure.
+    /// Allocates all the memory that the arena will ever use. The only error is an allocation failure.
     pub fn new(alloc: Global, pages: u32) -> Result<Arena, AllocError>
         requires some { 1 ≤ pages }
         requires few { pages ≤ 4096 }

@@ -77,7 +77,7 @@ fn copy_between(
 #[tactic(auto, using(crate::proofs::Given::given_frames))]
 impl Frames {
     /// Creates `count` free frames. Allocates all the memory that the frames will ever use, and touches no frame's
-    /// memory. An error is an allocation failure.
+    /// memory. The only error is an allocation failure.
     pub(crate) fn new(alloc: Global, count: usize) -> Result<Frames, AllocError>
         requires { count ≤ 4096 }
         ensures { IfOk result (λ frames. frames ≡ replicate count None) }

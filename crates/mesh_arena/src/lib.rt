@@ -1,6 +1,6 @@
 //! The modelled physical memory: an arena of pages of 4,096 bytes, each free or taken.
 //!
-//! All memory is allocated when the arena is created. No later call allocates or deallocates. Contracts see an arena as
+//! All memory is allocated when the arena is created. No later call allocates or deallocates. In contracts, an arena is
 //! the list of its pages: `None` for a free page, and the bytes of a taken page. Each call is specified twice: as an
 //! equation on that list, and by places. The second form uses `is_taken`, `byte_at`, `free_count` and the records
 //! `Takes`, `Gives`, `Writes` of `specs/Pages.antt`, so a caller need not look inside the list.

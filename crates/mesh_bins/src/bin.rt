@@ -43,7 +43,8 @@ impl Model for Bin {
 }
 
 impl Bin {
-    /// Creates an empty set. Allocates all the memory that the set will ever use. An error is an allocation failure.
+    /// Creates an empty set. Allocates all the memory that the set will ever use. The only error is an allocation
+    /// failure.
     pub fn new(alloc: Global) -> Result<Bin, AllocError>
         ensures { IfOk result (λ bin. bin ≡ set.empty) }
     {

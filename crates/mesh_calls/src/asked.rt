@@ -25,7 +25,7 @@ pub(crate) struct AskedCall {
 
 /// Reads the fields of a call's line before `->`.
 ///
-/// The error is WORD if the worker, the begin, the end or the word of the command is missing. Otherwise it is that of
+/// The error is WORD if the worker, the start, the end or the word of the command is missing. Otherwise it is that of
 /// the leftmost fault.
 pub(crate) fn call_asked_of(fields: &[&[u8]]) -> Result<AskedCall, FaultKind>
     ensures { IsAskedRead (call_asked_in (texts fields.now)) result }

@@ -1,4 +1,4 @@
-//! The reasons why the reading of a history of overlapping calls stops.
+//! The errors that stop the reading of a history of overlapping calls.
 ghost use Rattle.std.specs.Prelude.{◌≡◌};
 ghost use Rattle.mesh_calls.specs.CallFaults.{call_error_of};
 ghost use Rattle.mesh_calls.specs.declared.faults.CallError.{CallError};

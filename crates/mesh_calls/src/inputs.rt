@@ -16,7 +16,7 @@ use mesh_line_input::LineInput;
 use model_words::{FaultKind, TextFault};
 use std::alloc::{AllocError, Global};
 
-/// A history of overlapping calls that comes from a device, after a beginning of the text was read.
+/// A history of overlapping calls that is read from a device, after a beginning of the text was read.
 #[derive(Drop)]
 pub struct CallInput {
     /// The lines of the text.

@@ -1,7 +1,7 @@
 //! Reads the lines of a history of overlapping calls: commands, answers, and when each call began and ended.
 //!
 //! `read_call_head` and `read_call` read one line, without its line end. A `CallInput` reads a history from a device,
-//! and returns its calls one by one. Each returned call is in order. A contract sees the calls as those of
+//! and returns its calls one by one. Each returned call is in order. In contracts, the calls are those of
 //! `model_intervals`.
 #![tactic(auto)]
 

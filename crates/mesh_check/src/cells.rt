@@ -65,7 +65,8 @@ impl Cells {
         None
     }
 
-    /// Stores a number in a cell. An error is an allocation failure; then the cell's content is unspecified.
+    /// Stores a number in a cell. The only error is an allocation failure, after which the cell's content is
+    /// unspecified.
     pub fn point(&mut self, cell: u32, number: u32) -> Result<(), AllocError>
         ensures { OnOk result (IsPointed self.old self.new cell number) }
     {
@@ -74,7 +75,7 @@ impl Cells {
         Ok(())
     }
 
-    /// Records that the object whose number a cell holds was freed through this cell. An error is an allocation
+    /// Records that the object whose number a cell holds was freed through this cell. The only error is an allocation
     /// failure.
     pub fn free(&mut self, cell: u32) -> Result<(), AllocError>
         requires { IsSome (number_at self.old cell) }
@@ -86,7 +87,7 @@ impl Cells {
     }
 }
 
-/// Removes a cell, if it is in the set. An error is an allocation failure; then the set is unchanged.
+/// Removes a cell, if it is in the set. The only error is an allocation failure, after which the set is unchanged.
 fn remove(cells: &mut NumberSet, cell: u32) -> Result<(), AllocError>
     ensures removed { OnOk result ((q : ℕ) → Has cells.new q ↔ (Has cells.old q × (q ≢ cell))) }
     ensures unchanged { OnErr result ((q : ℕ) → Has cells.new q ↔ Has cells.old q) }

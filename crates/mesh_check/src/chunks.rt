@@ -47,7 +47,7 @@ impl Model for Chunk {
 }
 
 impl Chunk {
-    /// Returns a chunk in which nothing was stored. An error is an allocation failure.
+    /// Returns a chunk in which nothing was stored. The only error is an allocation failure.
     fn new(alloc: Global) -> Result<Chunk, AllocError>
         ensures { IfOk result (λ chunk. chunk ≡ chunk_bytes None) }
     {
@@ -107,8 +107,8 @@ pub fn stored_at(chunks: &BTreeMap<u64, Chunk>, number: u64, place: usize) -> Op
     chunks.get(&number)?.stored_at(place)
 }
 
-/// Overwrites the bytes of a chunk that begin at `place`, for the entry on a line. An error is an allocation failure.
-/// It comes only if the chunk was not kept, and nothing changes then.
+/// Overwrites the bytes of a chunk that begin at `place`, for the entry on a line. The only error is an allocation
+/// failure. It is possible only if the chunk was not kept, and nothing has changed after it.
 pub fn store_in(
     alloc: Global,
     chunks: &mut BTreeMap<u64, Chunk>,

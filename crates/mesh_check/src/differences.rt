@@ -10,8 +10,8 @@ use mesh_history::RecordedReply;
 use model_words::MAX_BYTES;
 use std::array;
 
-/// Returns the reason to reject an answer that differs from the expected one: `LiveRefused` if only the answer is a
-/// refusal, and otherwise `Differs`.
+/// Returns the reason to reject an answer that differs from the expected one: `LiveRefused` if the answer is a refusal
+/// and the expected one isn't, and otherwise `Differs`.
 pub fn difference(
     answered: RecordedReply,
     wanted: RecordedReply,

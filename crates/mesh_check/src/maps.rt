@@ -19,8 +19,8 @@ pub fn nearest(starts: &BTreeMap<u64, u32>, address: u64) -> Option<u32>
     Some(*number)
 }
 
-/// Overwrites the bytes of an object that begin at offset `off`, for the entry on a line. An error is an allocation
-/// failure.
+/// Overwrites the bytes of an object that begin at offset `off`, for the entry on a line. The only error is an
+/// allocation failure.
 pub fn store(
     objects: &mut BTreeMap<u32, Stored>,
     number: u32,
@@ -41,8 +41,8 @@ pub fn store(
     }
 }
 
-/// Maps a key to a value: the number of an object to the object, or a cell to the number that it holds. An error is an
-/// allocation failure; nothing changes then.
+/// Maps a key to a value: the number of an object to the object, or a cell to the number that it holds. The only error
+/// is an allocation failure, after which nothing has changed.
 pub fn set<T: Drop>(map: &mut BTreeMap<u32, T>, key: u32, value: T) -> Result<(), AllocError>
     ensures set { OnOk result (IsSetAt (get nat_cmp map.old) (get nat_cmp map.new) key (Some value)) }
     ensures unchanged { OnErr result (IsUnchanged map.old map.new) }
@@ -51,7 +51,7 @@ pub fn set<T: Drop>(map: &mut BTreeMap<u32, T>, key: u32, value: T) -> Result<()
     Ok(())
 }
 
-/// Maps an object's address to its number. An error is an allocation failure.
+/// Maps an object's address to its number. The only error is an allocation failure.
 pub fn set_start(
     starts: &mut BTreeMap<u64, u32>,
     address: u64,

@@ -97,7 +97,8 @@ impl Tracked {
         }
     }
 
-    /// The live object that a cell names, with its number. The error is the first of EMPTY and FREED that holds.
+    /// The live object that a cell names, with its number. The error is the first that applies, in this order: EMPTY,
+    /// FREED.
     pub(crate) fn named(&self, cell: u32) -> Result<(u32, &Stored), Refusal>
         ensures named { IfOk result
             (λ found. (r : Recorded) → Stands self.now r
@@ -134,8 +135,8 @@ impl Tracked {
         Ok((number, object))
     }
 
-    /// Loads `len` bytes from offset `off` of the object that `cell` names. The error is the first of EMPTY, FREED and
-    /// OUTSIDE that holds.
+    /// Loads `len` bytes from offset `off` of the object that `cell` names. The error is the first that applies, in
+    /// this order: EMPTY, FREED, OUTSIDE.
     pub fn get(&self, cell: u32, off: u64, len: u32) -> Result<ArrayVec<u8, MAX_BYTES>, Refusal>
         requires { len ≤ 32 }
         ensures bytes { IfOk result
@@ -152,7 +153,7 @@ impl Tracked {
         Ok(object.bytes.load(off, len))
     }
 
-    /// The address of the object that `cell` names. The error is the first of EMPTY and FREED that holds.
+    /// The address of the object that `cell` names. The error is the first that applies, in this order: EMPTY, FREED.
     pub fn addr(&self, cell: u32) -> Result<u64, Refusal>
         ensures address { IfOk result
             (λ address. (r : Recorded) → Stands self.now r
@@ -177,7 +178,7 @@ impl Tracked {
     }
 
     /// Stores bytes from offset `off` of the object that `cell` names, for the entry on a line. The error is the first
-    /// of EMPTY, FREED and OUTSIDE that holds, or else Memory.
+    /// that applies, in this order: EMPTY, FREED, OUTSIDE, Memory.
     pub fn put(
         &mut self,
         line: u32,
@@ -199,8 +200,8 @@ impl Tracked {
         Ok(())
     }
 
-    /// Frees the object that `cell` names. The cell keeps its number. The error is the first of EMPTY and FREED that
-    /// holds, or else Memory.
+    /// Frees the object that `cell` names. The cell keeps its number. The error is the first that applies, in this
+    /// order: EMPTY, FREED, Memory.
     pub fn free(&mut self, cell: u32) -> Result<(), CommandError>
         ensures done { OnOk result (IsDone self.old self.new (Command.Free cell)) }
         ensures refused { IfErr result (IsRefused self.old self.new (Command.Free cell)) }
@@ -216,8 +217,8 @@ impl Tracked {
         Ok(())
     }
 
-    /// Stores in `to` the number that `from` holds. The error is the first of EMPTY and FREED of `from` that holds, or
-    /// else Memory.
+    /// Stores in `to` the number that `from` holds. The error is the first that applies, in this order: EMPTY, FREED of
+    /// `from`, Memory.
     pub fn alias(&mut self, to: u32, from: u32) -> Result<(), CommandError>
         ensures done { OnOk result (IsDone self.old self.new (Command.Alias to from)) }
         ensures refused { IfErr result (IsRefused self.old self.new (Command.Alias to from)) }
@@ -246,10 +247,11 @@ impl Tracked {
     }
 
     /// Copies `len` bytes from offset `from_off` of the object that `from` names to offset `to_off` of the object that
-    /// `to` names, for the entry on a line. If the two ranges overlap, the bytes from before the copy are copied.
+    /// `to` names, for the entry on a line. If the two ranges overlap, the copied bytes are those that the source range
+    /// had before the copy.
     ///
-    /// The error is the first that holds of EMPTY (either cell), FREED (either object) and OUTSIDE (either range), or
-    /// else Memory.
+    /// The error is the first that applies, in this order: EMPTY (either cell), FREED (either object), OUTSIDE (either
+    /// range), Memory.
     pub fn copy(
         &mut self,
         line: u32,
@@ -273,7 +275,7 @@ impl Tracked {
     }
 
     /// Returns the number of the object that a copy changes, and the copied bytes. `to` and `from` are each a cell and
-    /// an offset. The error is the first of EMPTY, FREED and OUTSIDE that holds.
+    /// an offset. The error is the first that applies, in this order: EMPTY, FREED, OUTSIDE.
     fn copied(
         &self,
         to: (u32, u64),

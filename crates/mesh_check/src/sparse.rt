@@ -92,9 +92,9 @@ impl SparseBytes {
 
     /// Overwrites the bytes that begin at offset `start`, for the entry on a line. Lines are numbered from 1.
     ///
-    /// The only error is an allocation failure. Then some of the bytes, from the first on, are stored, and all others
-    /// are unchanged. The error comes only if the range touches a chunk of 64 bytes in which no byte was stored before.
-    /// No clause states this condition, because the list of bytes doesn't show which chunks take memory.
+    /// The only error is an allocation failure. After it a prefix of the bytes is stored, and all other bytes are
+    /// unchanged. The error is possible only if the range touches a chunk of 64 bytes in which no byte was stored
+    /// before. No clause states this condition, because the list of bytes doesn't show which chunks take memory.
     pub fn store(&mut self, start: u64, bytes: &[u8], line: u32) -> Result<(), AllocError>
         requires fits { start + length bytes.now ≤ length self.old }
         requires few { length bytes.now ≤ 32 }
@@ -124,7 +124,7 @@ impl SparseBytes {
     }
 
     /// Overwrites the bytes of one chunk that begin at `place`, for the entry on a line. The only error is an
-    /// allocation failure, which comes only if the chunk was not kept (`store_in`).
+    /// allocation failure, which is possible only if the chunk was not kept (`store_in`).
     fn store_run(
         &mut self,
         number: u64,

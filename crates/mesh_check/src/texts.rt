@@ -8,7 +8,8 @@ use mesh_history::RecordedReply;
 use mesh_spelling::{add_address, add_bytes, add_decimal, add_refusal};
 use std::alloc::{AllocError, Global};
 
-/// The line of a verdict, with its end: `legal N entries`, or `line L: REASON`. An error is an allocation failure.
+/// The line of a verdict, with a line end: `legal N entries`, or `line L: REASON`. The only error is an allocation
+/// failure.
 pub fn verdict_line(alloc: Global, verdict: &Verdict) -> Result<Vec<u8>, AllocError>
     ensures { IfOk result (λ text. text.items ≡ verdict_text verdict.now) }
 {
@@ -133,7 +134,7 @@ fn add_range(text: &mut Vec<u8>, range: AddressRange) -> Result<(), AllocError>
     add_address(text, range.to)
 }
 
-/// Appends an answer in the format of a recorded history. An error is an allocation failure.
+/// Appends an answer in the format of a recorded history. The only error is an allocation failure.
 pub fn add_recorded(text: &mut Vec<u8>, reply: &RecordedReply) -> Result<(), AllocError>
     ensures { OnOk result (text.new.items ≡ text.old.items ++ recorded_text reply.now) }
 {

@@ -1,6 +1,6 @@
 //! The ten size classes: the class of a request, and the pages and slots of a span of each class.
 //!
-//! A contract sees a `Class` as its size in bytes. The table of the classes is defined in `model_words`.
+//! In contracts, a `Class` is its slot size in bytes. The table of the classes is defined in `model_words`.
 #![tactic(auto)]
 
 mod classes;

@@ -76,7 +76,7 @@ impl Calls for Register {
 }
 
 /// The begin of the next call, or the end of the call with a number. Calls are numbered from 0 in the order of their
-/// begins.
+/// starts.
 #[derive(Clone, Copy)]
 enum Event {
     Begins(Access),
@@ -84,7 +84,7 @@ enum Event {
 }
 
 /// Whether a judge has a configuration left after these events. At most `most` configurations may be met at an end.
-/// Returns `None` if the judge returned an error, or if a call ends that isn't pending.
+/// Returns `None` if the judge returned an error, or if a call that isn't pending ends.
 fn judged(alloc: Global, events: &[Event], most: usize) -> Option<bool> {
     let mut judge = Judge::<Register>::new(alloc, Word { value: 0 }).ok()?;
     let mut places = Vec::new(alloc);
@@ -293,8 +293,8 @@ struct History {
     open: Vec<usize>,
 }
 
-/// Adds a random event: a call begins, or a pending call ends. Adds nothing if all 6 calls have ended. An error is an
-/// allocation failure.
+/// Adds a random event: a call begins, or a pending call ends. Adds nothing if all 6 calls have ended. The only error
+/// is an allocation failure.
 fn add_event(history: &mut History, seed: &mut u64) -> Result<(), AllocError> {
     let now = history.events.len();
     if history.calls.len() < 6 && (history.open.is_empty() || random(seed, 2) == 0) {
@@ -322,7 +322,7 @@ fn add_event(history: &mut History, seed: &mut u64) -> Result<(), AllocError> {
     Ok(())
 }
 
-/// Returns a random history. An error is an allocation failure.
+/// Returns a random history. The only error is an allocation failure.
 fn random_history(alloc: Global, seed: &mut u64) -> Result<History, AllocError> {
     let mut history = History {
         events: Vec::new(alloc),

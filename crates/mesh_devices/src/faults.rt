@@ -14,7 +14,7 @@ pub enum ReplayError {
     /// A read failed, or returned a number of bytes above the length of its buffer. Nothing was written.
     #[error("read fault")]
     Read,
-    /// A write failed, accepted none of some bytes, or returned a number of bytes above the number that it was given. A
+    /// A write failed, accepted no byte although it was given some, or reported more bytes than it was given. A
     /// beginning of the answers was written.
     #[error("write fault")]
     Write,

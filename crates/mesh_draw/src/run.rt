@@ -111,7 +111,7 @@ fn measured(alloc: Global, job: &Job, from: usize, to: usize) -> Result<Measurin
     Ok(measuring)
 }
 
-/// Draws the points after the lines `from` to `to`. Returns the number of the line whose point would come next.
+/// Draws the points after the lines `from` to `to`. Returns the number of the line after the last drawn point.
 fn draw_all<O: Sink>(
     alloc: Global,
     job: &Job,

@@ -96,14 +96,14 @@ pub fn command_of(
 }
 
 /// Reads a cell or a serial of a recorded history: a decimal number of at most 32 bits. The error is NUMBER if the
-/// field is anything else.
+/// field isn't such a number.
 pub fn wide(field: &[u8]) -> Result<u32, FaultKind>
     ensures { result ≡ wide_in field.now }
 {
     number32(field, 0, u32::MAX)
 }
 
-/// Reads the number of bytes that are loaded or copied, 1 to 32. The error is NUMBER if the field is anything else.
+/// Reads the number of bytes that are loaded or copied, 1 to 32. The error is NUMBER if the field isn't such a number.
 fn count(field: &[u8]) -> Result<u32, FaultKind>
     ensures value { result ≡ count_in field.now }
     ensures some { IfOk result (λ count. 1 ≤ count) }
@@ -123,7 +123,7 @@ impl Dialect {
         }
     }
 
-    /// Reads a root cell. The error is NUMBER if the field is anything else.
+    /// Reads a root cell. The error is NUMBER if the field isn't a cell of this text.
     fn cell(self, field: &[u8]) -> Result<u32, FaultKind>
         ensures value { result ≡ (rules_of self).cell field.now }
         ensures most { IfOk result (λ cell. cell ≤ most_cell self) }
@@ -134,7 +134,7 @@ impl Dialect {
         }
     }
 
-    /// Reads a length or an offset. The error is NUMBER if the field is anything else.
+    /// Reads a length or an offset. The error is NUMBER if the field isn't one of this text.
     fn size(self, field: &[u8]) -> Result<u64, FaultKind>
         ensures value { result ≡ (rules_of self).size field.now }
         ensures most { IfOk result (λ size. size ≤ most_size self) }
@@ -145,7 +145,7 @@ impl Dialect {
         }
     }
 
-    /// Reads an address. The error is NUMBER if the field is anything else.
+    /// Reads an address. The error is NUMBER if the field isn't an address of this text.
     fn place(self, field: &[u8]) -> Result<u64, FaultKind>
         ensures value { result ≡ (rules_of self).place field.now }
         ensures most { IfOk result (λ place. place ≤ most_place self) }

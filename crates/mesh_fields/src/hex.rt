@@ -61,8 +61,8 @@ pub fn byte(field: &[u8]) -> Result<u8, FaultKind>
     }
 }
 
-/// Reads a field of 1 to 32 bytes, each spelt by two hexadecimal digits in lower case. The error is HEX if the field is
-/// anything else.
+/// Reads a field of 1 to 32 bytes, each spelt by two hexadecimal digits in lower case. The error is HEX for any other
+/// field.
 pub fn bytes(field: &[u8]) -> Result<ArrayVec<u8, MAX_BYTES>, FaultKind>
     ensures ok { IfOk result (λ bytes. bytes_in field.now ≡ Ok bytes.items) }
     ensures err { IfErr result (λ kind. bytes_in field.now ≡ Err kind) }
@@ -86,8 +86,8 @@ pub fn bytes(field: &[u8]) -> Result<ArrayVec<u8, MAX_BYTES>, FaultKind>
     Ok(bytes)
 }
 
-/// Reads a hexadecimal address from 0 to fffffff, without a leading zero. The error is NUMBER if the field is anything
-/// else.
+/// Reads a hexadecimal address from 0 to fffffff, without a leading zero. The error is NUMBER if the field isn't such
+/// an address.
 pub fn address(field: &[u8]) -> Result<u64, FaultKind>
     ensures value { result ≡ address_in field.now }
     ensures most { IfOk result (λ a. a ≤ 268435455) }
@@ -96,7 +96,7 @@ pub fn address(field: &[u8]) -> Result<u64, FaultKind>
 }
 
 /// Reads a hexadecimal address of 48 bits, from 0 to ffffffffffff, without a leading zero. The error is NUMBER if the
-/// field is anything else.
+/// field isn't such an address.
 pub fn wide_address(field: &[u8]) -> Result<u64, FaultKind>
     ensures value { result ≡ hex_in 11 281474976710655 field.now }
     ensures most { IfOk result (λ a. a ≤ 281474976710655) }
@@ -104,8 +104,8 @@ pub fn wide_address(field: &[u8]) -> Result<u64, FaultKind>
     hex_within(field, MAX_WIDE_ADDRESS)
 }
 
-/// Reads a hexadecimal number from 0 to `most`, without a leading zero. The error is NUMBER if the field is anything
-/// else.
+/// Reads a hexadecimal number from 0 to `most`, without a leading zero. The error is NUMBER if the field isn't such a
+/// number.
 fn hex_within(field: &[u8], most: u64) -> Result<u64, FaultKind>
     ensures value { (more : ℕ) → most < 16 ^ suc more → result ≡ hex_in more most field.now }
     ensures most { IfOk result (λ value. value ≤ most) }

@@ -95,7 +95,7 @@ pub fn next_line(text: &[u8]) -> Result<Option<(&[u8], &[u8])>, FaultKind>
 }
 
 /// Splits the next line of a text into its fields, and returns the bytes after the line end. This single scan is for
-/// the most common lines. Returns `None` if the text has no whole line, or if the line has a fault, an empty field or
+/// the most frequent lines. Returns `None` if the text has no whole line, or if the line has a fault, an empty field or
 /// more than `FEW_FIELDS` fields.
 pub fn few_fields<'a>(text: &'a [u8], fields: &mut FewFields<'a>) -> Option<&'a [u8]>
     requires { fields.old.items ≡ [] }

@@ -22,7 +22,7 @@ fn decimal_of(field: &[u8]) -> Option<u64>
     Some(number)
 }
 
-/// Reads a decimal number from `least` to `most`. The error is NUMBER if the field is anything else.
+/// Reads a decimal number from `least` to `most`. The error is NUMBER if the field isn't such a number.
 pub fn number(field: &[u8], least: u64, most: u64) -> Result<u64, FaultKind>
     ensures value { result ≡ number_in least most field.now }
     ensures most { IfOk result (λ number. number ≤ most) }
@@ -39,8 +39,8 @@ pub fn number(field: &[u8], least: u64, most: u64) -> Result<u64, FaultKind>
     Ok(number)
 }
 
-/// Reads a decimal number from `least` to `most`, of at most 32 bits. The error is NUMBER if the field is anything
-/// else.
+/// Reads a decimal number from `least` to `most`, of at most 32 bits. The error is NUMBER if the field isn't such a
+/// number.
 pub fn number32(field: &[u8], least: u32, most: u32) -> Result<u32, FaultKind>
     ensures value { result ≡ number_in least most field.now }
     ensures most { IfOk result (λ number. number ≤ most) }

@@ -1,5 +1,5 @@
-//! The fields of the most common lines, each read in one pass over the text, together with the byte after the field. A
-//! function returns `None` if it can't read the field. The line is then read field by field.
+//! The fields of the most frequent lines, each read in one pass over the text, together with the byte after the field.
+//! A function returns `None` if it can't read the field. The line is then read field by field.
 ghost use Rattle.std.specs.Prelude.{◌≡◌, ◌∷◌, ◌++◌, ◌<◌, ◌≤◌, ◌^◌, decimal, length, IfSome, IsTrue};
 ghost use Rattle.std.specs.List.{All};
 ghost use Rattle.model_jobs.specs.Texts.{address_text, byte_text, bytes_text, hex_from};

@@ -68,7 +68,7 @@ impl Figures {
         }
     }
 
-    /// Returns the text of the table of the figures. An error is an allocation failure.
+    /// Returns the text of the table of the figures. The only error is an allocation failure.
     pub fn text(&self, alloc: Global, counts: &Counts) -> Result<Vec<u8>, AllocError>
         ensures { (window : Window) (samples : List Sample) → IsOf self.now window samples
             → IfOk result (λ text. text.items ≡ figures_text window samples counts.now) }

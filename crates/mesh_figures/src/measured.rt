@@ -24,7 +24,7 @@ pub struct Measured {
     pub without: Column,
     pub with: Column,
     pub perfect: Column,
-    /// The peak and the sum of the live bytes, in whole pages.
+    /// The peak and the sum of the samples' live bytes, each rounded up to whole pages.
     pub live: Level,
     pub most: Option<Saving>,
 }

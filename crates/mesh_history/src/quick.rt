@@ -1,5 +1,5 @@
-//! Reads the most common entries in one pass over the text. The functions return `None` for any other line, which is
-//! then read field by field.
+//! Reads the most frequent kinds of entries in one pass over the text. The functions return `None` for any other line,
+//! which is then read field by field.
 ghost use Rattle.std.specs.Prelude.{◌≡◌, ◌∷◌, ◌++◌, ◌≤◌, codes, decimal, IfSome};
 ghost use Rattle.mesh_history.specs.QuickEntries.{IsQuickEntry};
 

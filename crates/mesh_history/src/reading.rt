@@ -1,4 +1,4 @@
-//! The entries of a text that comes in pieces.
+//! The entries of a text that is passed in pieces.
 ghost use Rattle.std.specs.Prelude.{◌≡◌, ◌∷◌, ◌++◌, ◌≤◌, ℕ, List, Ok, Err, Some, None, [], false, length, IfErr, IfOk, IfSome, IsNone, OnOk};
 ghost use Rattle.model_jobs.specs.JobFiles.{fault_at};
 ghost use Rattle.model_words.specs.Commands.{IsInRange};
@@ -20,7 +20,7 @@ use std::alloc::Global;
 pub struct EntryReader {
     /// The number of lines read so far.
     lines: u32,
-    /// The beginning of the line whose end hasn't come yet.
+    /// The beginning of the line whose end hasn't been read yet.
     begun: BegunLine,
 }
 
@@ -49,8 +49,8 @@ impl EntryReader {
     ///
     /// Errors:
     ///
-    /// - `Text`, if a line has a fault. Its kind is LONG_LINE as soon as more than 1,024 bytes of a line have come, and
-    ///   TOO_LONG if there are more than 4,294,967,295 lines.
+    /// - `Text`, if a line has a fault. Its kind is LONG_LINE as soon as more than 1,024 bytes of a line have been
+    ///   read, and TOO_LONG if there are more than 4,294,967,295 lines.
     /// - `Memory`, if the allocation for an unfinished line failed.
     ///
     /// After an error, the reader must not be used.
@@ -148,8 +148,8 @@ impl EntryReader {
         Ok(entry)
     }
 
-    /// Keeps bytes of a line whose end hasn't come yet. The error is `Text` if the line gets too long, and `Memory` if
-    /// an allocation fails.
+    /// Keeps bytes of a line whose end hasn't been read yet. The error is `Text` if the line gets too long, and
+    /// `Memory` if an allocation fails.
     fn keep(&mut self, bytes: &[u8]) -> Result<(), ReadFault>
         requires unended { IsUnended bytes.now }
         ensures begun { OnOk result (begun_of self.new ≡ begun_of self.old ++ bytes.now) }
@@ -163,8 +163,8 @@ impl EntryReader {
         Ok(())
     }
 
-    /// Checks that the text may end here. The error is CUT if the text has no line, or ends within a line. It is
-    /// TOO_LONG if the text ends within a line that is one too many.
+    /// Checks that the text may end here. The error is CUT if the text has no line, or ends within a line. If the text
+    /// ends within the line after 4,294,967,295 lines, the error is TOO_LONG instead.
     pub fn finish(&self) -> Result<(), TextFault>
         ensures ok { OnOk result (reading_behind self.now [] ≡ ends_with None) }
         ensures some { OnOk result (1 ≤ lines_of self.now) }

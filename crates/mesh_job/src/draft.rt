@@ -138,8 +138,8 @@ impl Draft {
         Ok(Some(rest))
     }
 
-    /// If the next line of the text is a common one, reads it into the draft and returns the bytes after it. Otherwise
-    /// returns `None` and reads nothing. An error is an allocation failure.
+    /// If the next line of the text has a frequent form, reads the line into the draft and returns the bytes after the
+    /// line. Otherwise returns `None` and reads nothing. The only error is an allocation failure.
     #[inline]
     fn take_quick_line<'a>(&mut self, text: &'a [u8]) -> Result<Option<&'a [u8]>, AllocError>
         requires draft { IsDraft self.old }
@@ -315,7 +315,7 @@ impl Draft {
 }
 
 /// Checks that the line has one field after its word, and that this field is `number`. The error is WORD if the number
-/// of fields isn't one, and NUMBER if the field is anything else.
+/// of fields isn't one, and NUMBER if the one field isn't `number`.
 fn check_number(fields: &[&[u8]], number: u32) -> Result<(), FaultKind>
     ensures ok { OnOk result (number_field_in number (texts fields.now) ≡ Ok number) }
     ensures err { IfErr result (λ kind. number_field_in number (texts fields.now) ≡ Err kind) }

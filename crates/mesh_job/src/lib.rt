@@ -1,15 +1,15 @@
 //! Job files: the lines of a plan and of scripts, and the one reader of a whole file.
 //!
 //! A job file is text with one statement per line: four header lines, a section of commands for each worker, and a
-//! plan. The plan gives the order in which the workers attempt their commands. Contracts see a job as a `Job` of the
+//! plan. The plan gives the order in which the workers attempt their commands. In contracts, a job is a `Job` of the
 //! definitions.
 //!
 //! `read_file` reads a whole text and returns its job or its first fault. Its contract is the definition of reading,
 //! which is about the whole text. The code goes line by line, and keeps the part that was read in a draft. A `Reading`
 //! reads a text in pieces, so the whole text need not be in memory.
 //!
-//! `command_of` and `plan_line` read a line from its word and its fields. `quick_command` and `quick_line` read a
-//! common line in one pass from the text that begins with the line.
+//! `command_of` and `plan_line` read a line from its word and its fields. `quick_command` and `quick_line` read the
+//! first line of a text in one pass, if the line has one of the frequent forms.
 #![tactic(auto)]
 
 mod command_list;

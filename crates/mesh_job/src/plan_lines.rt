@@ -33,7 +33,7 @@ const MAX_WORDS: usize = 32;
 ///   words.
 /// - NUMBER, if a field is misspelt or out of its range. A worker's number is below `workers`, and a group's number is
 ///   at most 65,535. A class is named by its size. A search has at most 64 rounds.
-/// - `Memory`, if the allocation of the search of a `pair` fails.
+/// - `Memory`, if an allocation for the search of a `pair` fails.
 pub fn plan_line(
     alloc: Global,
     version: Version,

@@ -1,4 +1,4 @@
-//! The lines that are common in texts, each read in one pass over the text.
+//! The frequent forms of lines in job files, each read in one pass over the text.
 //!
 //! Each function also returns the bytes after the line end. A function returns `None` if the line isn't of its kind, or
 //! is unusual in any way. The line is then read field by field.
@@ -19,8 +19,8 @@ const MAX_LENGTH: u32 = 65_535;
 
 /// Reads the first line of the text as a command, and returns the command and the text after the line end.
 ///
-/// Returns `None` if the line has no line end, has a fault, or isn't a common line. Such a line is then split into
-/// fields.
+/// Returns `None` if the line has no line end, has a fault, or has an unusual form. The caller then splits the line
+/// into fields.
 pub fn quick_command(text: &[u8]) -> Option<(Command, &[u8])>
     ensures { IfSome result (λ read. IsQuickCommand text.now read.0 read.1.now) }
 {
@@ -139,7 +139,7 @@ fn poke_of(fields: &[u8]) -> Option<(Command, &[u8])>
 }
 
 /// Reads the first line of the text as a line of a plan, in a job of `workers` workers. Returns the line and the text
-/// after the line end. Returns `None` if the line has no line end, has a fault, or isn't a common line.
+/// after the line end. Returns `None` if the line has no line end, has a fault, or has an unusual form.
 pub fn quick_line(text: &[u8], version: Version, workers: u32) -> Option<(PlanLine, &[u8])>
     requires { 1 ≤ workers }
     ensures { IfSome result (λ read. IsQuickLine version workers text.now read.0 read.1.now) }

@@ -12,7 +12,7 @@ use std::alloc::{AllocError, Global};
 /// Returns the calls of a text of `history 2` in an order of effects that explains them, as a text of `history 1`.
 /// `most` limits the number of configurations that an object may have at the end of a call.
 ///
-/// `None` if the calls aren't found to be linearizable, or no order was found. An error is an allocation failure.
+/// `None` if the calls aren't found to be linearizable, or no order was found. The only error is an allocation failure.
 pub fn ordered_history(
     alloc: Global,
     text: &[u8],
@@ -36,7 +36,7 @@ pub fn ordered_history(
     Ok(Some(history))
 }
 
-/// Whether the calls of a text are found to be linearizable. An error is an allocation failure.
+/// Whether the calls of a text are found to be linearizable. The only error is an allocation failure.
 fn is_linearizable(alloc: Global, text: &[u8], most: usize) -> Result<bool, AllocError> {
     let mut input = Input::new(text);
     match check_calls(alloc, &mut input, most) {
@@ -47,7 +47,7 @@ fn is_linearizable(alloc: Global, text: &[u8], most: usize) -> Result<bool, Allo
     }
 }
 
-/// Returns the calls of a text, or `None` if the text has a fault. An error is an allocation failure.
+/// Returns the calls of a text, or `None` if the text has a fault. The only error is an allocation failure.
 fn calls_in(alloc: Global, text: &[u8]) -> Result<Option<Vec<TimedCall>>, AllocError>
     ensures { IfOk result (λ found. IfSome found (λ calls. AreCallsOf text.now calls.items)) }
 {
@@ -77,7 +77,7 @@ fn read_calls<I: Source>(
     Ok(calls)
 }
 
-/// Adds a call. An error is an allocation failure.
+/// Adds a call. The only error is an allocation failure.
 fn add(calls: &mut Vec<TimedCall>, call: TimedCall) -> Result<(), AllocError>
     ensures { OnOk result (calls.new.items ≡ calls.old.items ++ call ∷ []) }
 {

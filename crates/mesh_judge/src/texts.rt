@@ -11,7 +11,7 @@ use mesh_spelling::add_decimal;
 use std::alloc::{AllocError, Global};
 
 /// Returns the line of a judgement, with its line end. `most` is the limit on configurations that the judgement was
-/// made with. An error is an allocation failure.
+/// made with. The only error is an allocation failure.
 pub fn judgement_line(
     alloc: Global,
     judgement: &Judgement,

@@ -1,4 +1,4 @@
-//! The beginning of a line whose end has not come yet.
+//! The beginning of a line whose end hasn't been read yet.
 ghost use Rattle.std.specs.Prelude.{◌≡◌, ◌-◌, ◌≤◌, ◌++◌, ◌↔◌, [], length, IsTrue, OnOk};
 ghost use Rattle.mesh_fields.specs.KeptLines.{IsUnended};
 

@@ -13,7 +13,7 @@ use mesh_fields::lines::{cut, rest_fault};
 use model_words::{FaultKind, TextFault};
 use std::alloc::{AllocError, Global};
 
-/// The lines of a text that comes from a device, after a beginning of the text was read.
+/// The lines of a text that is read from a device, after a beginning of the text was read.
 #[derive(Drop)]
 pub struct LineInput {
     /// The number of lines read so far.
@@ -57,8 +57,8 @@ impl LineInput {
     ///
     /// Errors:
     ///
-    /// - `Text` with LONG_LINE, as soon as more than 1,024 bytes of the next line have come.
-    /// - `Text` with TOO_LONG and line 0, if 4,294,967,295 lines were read and more bytes come.
+    /// - `Text` with LONG_LINE, as soon as more than 1,024 bytes of the next line have been read.
+    /// - `Text` with TOO_LONG and line 0, if 4,294,967,295 lines were read and there are more bytes.
     /// - `Text` with CUT, if the text ends within a line, or has no line.
     /// - `Read`, if and only if the input failed.
     /// - `Memory`, if an allocation failed.

@@ -1,4 +1,4 @@
-//! Handles the begins of calls.
+//! Handles the starts of calls.
 ghost use Rattle.std.specs.Prelude.{◌≡◌, ◌+◌, ℕ, true, false, IfOk, OnOk, None};
 ghost use Rattle.std.specs.Ordering.{nat_cmp};
 ghost use Rattle.std.specs.BTreeMap.{get};
@@ -25,7 +25,7 @@ use std::alloc::{AllocError, Global};
 use std::collections::BTreeMap;
 
 impl Timeline {
-    /// Applies the begin of a call to the live objects. Returns what must be done at the end of the call. The errors
+    /// Applies the start of a call to the live objects. Returns what must be done at the end of the call. The errors
     /// are those of `begin`.
     pub(crate) fn begun(
         &mut self,
@@ -51,7 +51,7 @@ impl Timeline {
         }
     }
 
-    /// Handles the begin of a `free`: the object of the cell is no longer live. Returns what must be done at the end of
+    /// Handles the start of a `free`: the object of the cell is no longer live. Returns what must be done at the end of
     /// the `free`. Returns an error if an allocation fails.
     fn free_begun(&mut self, cell: u32) -> Result<Pending, AllocError>
         ensures waiting { self.new.waiting ≡ self.old.waiting }
@@ -84,7 +84,7 @@ impl Timeline {
         Ok(OutsideLife::NotBeforeFree)
     }
 
-    /// Handles the begin of an access to the object of a cell. Returns what must be done at the end of the access. The
+    /// Handles the start of an access to the object of a cell. Returns what must be done at the end of the access. The
     /// errors are those of `Life::begin`.
     fn access_begun(
         &mut self,
@@ -112,7 +112,7 @@ impl Timeline {
     }
 }
 
-/// Handles the begin of an access to the live object of a cell. Returns whether the cell has a live object. The errors
+/// Handles the start of an access to the live object of a cell. Returns whether the cell has a live object. The errors
 /// are those of `Life::begin`.
 fn begin_in(
     lives: &mut BTreeMap<u32, Life>,

@@ -98,7 +98,7 @@ fn verdict_of(found: Result<Option<Found>, Stop>) -> Result<Option<CallVerdict>,
 }
 
 impl Timeline {
-    /// Handles the ends before the begin of the next call, and then this begin. Returns the first flaw that is found,
+    /// Handles the ends before the start of the next call, and then this start. Returns the first flaw that is found,
     /// or `None` if no flaw is found. The error is the reason why the judge stops.
     fn take(&mut self, number: u32, call: &TimedCall, most: usize) -> Result<Option<Found>, Stop>
         requires few { FewOpen (lives_of self.old) number }

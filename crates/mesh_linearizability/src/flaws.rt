@@ -30,6 +30,6 @@ pub enum Flaw {
 pub enum OutsideLife {
     /// The call doesn't begin after the end of the `new`.
     NotAfterNew,
-    /// The call doesn't end before the begin of the `free`.
+    /// The call doesn't end before the start of the `free`.
     NotBeforeFree,
 }

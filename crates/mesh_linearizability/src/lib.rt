@@ -1,6 +1,6 @@
 //! Judges histories of overlapping calls: whether some order of effect explains all calls.
 //!
-//! `check_calls` reads a text of `history 2` from a device and returns a `CallVerdict`. A `Timeline` handles the begins
+//! `check_calls` reads a text of `history 2` from a device and returns a `CallVerdict`. A `Timeline` handles the starts
 //! and ends of calls in the order of time, and reads no text.
 #![tactic(auto)]
 

@@ -30,7 +30,7 @@ pub enum AccessEnd {
 }
 
 impl Life {
-    /// Handles the begin of an access. No pending access may have the number `number`.
+    /// Handles the start of an access. No pending access may have the number `number`.
     ///
     /// The error is `TooManyPending` if 64 accesses are pending, and `Memory` if an allocation fails.
     pub fn begin(&mut self, alloc: Global, number: u32, access: Access) -> Result<(), JudgeFault>

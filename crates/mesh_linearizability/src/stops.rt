@@ -5,7 +5,7 @@ use mesh_configurations::JudgeFault;
 /// The first flaw of a history.
 #[derive(Drop)]
 pub struct Found {
-    /// The number of the call at whose end the flaw was found. Calls are numbered from 0 in the order of their begins.
+    /// The number of the call at whose end the flaw was found. Calls are numbered from 0 in the order of their starts.
     pub number: u32,
     /// The flaw.
     pub flaw: Flaw,

@@ -1,4 +1,4 @@
-//! `Timeline`, which handles the begins and ends of calls in the order of time.
+//! `Timeline`, which handles the starts and ends of calls in the order of time.
 ghost use Rattle.std.specs.Prelude.{◌≡◌, ◌⊎◌, ◌↔◌, ◌+◌, ◌*◌, ◌++◌, ◌∷◌, ◌<◌, ◌≤◌, ◌^◌, [], ℕ, List, IfOk, IfSome, IsNone, OnOk, Some, length};
 ghost use Rattle.std.specs.Ordering.{nat_cmp};
 ghost use Rattle.std.specs.BTreeMap.{Updates, get};
@@ -63,7 +63,7 @@ impl Timeline {
         }
     }
 
-    /// Handles the begin of the next call. `number` is the number of calls that began before this call. `end` and
+    /// Handles the start of the next call. `number` is the number of calls that began before this call. `end` and
     /// `entry` are the end and the entry of this call.
     ///
     /// The error is `TooManyPending` if 64 accesses to the call's object are already pending, and `Memory` if an

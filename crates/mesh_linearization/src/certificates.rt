@@ -9,7 +9,7 @@ use mesh_check::Tracked;
 use std::alloc::{AllocError, Global};
 
 /// Whether the calls in this order respect time and form a legal history. The contract states only that an answer
-/// `true` is right. An error is an allocation failure.
+/// `true` is right. The only error is an allocation failure.
 pub fn is_legal_order(alloc: Global, calls: &[TimedCall], order: &[u32]) -> Result<bool, AllocError>
     requires read { All IsReadCall calls.now }
     requires places { All (λ number. number < length calls.now) order.now }

@@ -8,7 +8,7 @@ use mesh_history::SpeltCommand;
 use mesh_spelling::{add_bytes, add_decimal};
 use std::alloc::AllocError;
 
-/// Appends a `new`, `put`, `get`, `free` or `addr` in the format of a recorded history. An error is an allocation
+/// Appends a `new`, `put`, `get`, `free` or `addr` in the format of a recorded history. The only error is an allocation
 /// failure.
 pub fn add_call_command(text: &mut Vec<u8>, command: &SpeltCommand) -> Result<(), AllocError>
     requires { NamesObject (plain_command command.now) }

@@ -1,8 +1,8 @@
-//! The begins and ends of calls in time.
+//! The starts and ends of calls in time.
 use mesh_calls::TimedCall;
 use std::alloc::{AllocError, Global};
 
-/// The kind of an event. At one moment, a begin comes before an end.
+/// The kind of an event. At one moment, a start comes before an end.
 #[derive(Clone, Copy, PartialEq, Eq, PartialOrd, Ord)]
 pub enum EventKind {
     /// The call begins.
@@ -11,7 +11,7 @@ pub enum EventKind {
     End,
 }
 
-/// A begin or an end of a call, ordered by time.
+/// The start or the end of a call. Events are ordered by time.
 #[derive(Clone, Copy, PartialEq, Eq, PartialOrd, Ord)]
 pub struct Event {
     /// The moment of the event.
@@ -22,7 +22,7 @@ pub struct Event {
     pub number: u32,
 }
 
-/// The begins and ends of the calls with these numbers, in the order of time. An error is an allocation failure.
+/// The starts and ends of the calls with these numbers, in the order of time. The only error is an allocation failure.
 pub fn events_of(
     alloc: Global,
     calls: &[TimedCall],

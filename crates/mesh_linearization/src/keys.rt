@@ -32,7 +32,7 @@ pub struct Key {
     pub number: u32,
 }
 
-/// Returns the numbers of the calls, sorted by their points. An error is an allocation failure.
+/// Returns the numbers of the calls, sorted by their points. The only error is an allocation failure.
 pub fn order_by(
     alloc: Global,
     calls: &[TimedCall],
@@ -46,7 +46,7 @@ pub fn order_by(
     numbers_of(alloc, keys.as_slice())
 }
 
-/// Returns the keys of the calls, in the order of the calls' numbers. An error is an allocation failure.
+/// Returns the keys of the calls, in the order of the calls' numbers. The only error is an allocation failure.
 fn keys_of(alloc: Global, calls: &[TimedCall], points: &[Point]) -> Result<Vec<Key>, AllocError>
     requires { length calls.now < 2 ^ 32 }
     ensures { IfOk result (λ keys. map (λ key. key.number) keys.items ≡ range_with_len 0 (length calls.now)) }

@@ -5,7 +5,7 @@
 //!
 //! The modules, from the bottom up:
 //!
-//! - `objects` finds the accesses of each object, and `events` their begins and ends in time.
+//! - `objects` finds the accesses of each object, and `events` their starts and ends in time.
 //! - `kept` and `search` find an order of effects of one object's accesses.
 //! - `points` gives each call a moment of effect, and `keys` sorts the calls by these moments.
 //! - `certificates` checks the order, and `orders` runs all these parts.

@@ -17,8 +17,8 @@ pub struct Object {
     pub accesses: Vec<u32>,
 }
 
-/// Returns the objects by their cells. `None` if some access names a cell in which no call made an object. An error is
-/// an allocation failure.
+/// Returns the objects by their cells. `None` if some access names a cell in which no call made an object. The only
+/// error is an allocation failure.
 pub fn objects_of(
     alloc: Global,
     calls: &[TimedCall],
@@ -34,7 +34,7 @@ pub fn objects_of(
     Ok(Some(objects))
 }
 
-/// Returns the objects that calls made, by their cells and without accesses. An error is an allocation failure.
+/// Returns the objects that calls made, by their cells and without accesses. The only error is an allocation failure.
 fn made_objects(alloc: Global, calls: &[TimedCall]) -> Result<BTreeMap<u32, Object>, AllocError> {
     let mut objects = BTreeMap::new(alloc);
     for call in calls {
@@ -61,7 +61,7 @@ fn made_object(alloc: Global, entry: &RecordedEntry) -> Option<(u32, Object)> {
 }
 
 /// Adds an access to its object, and returns whether the object exists. Returns `true` for a command that isn't an
-/// access. An error is an allocation failure.
+/// access. The only error is an allocation failure.
 fn add_access(
     objects: &mut BTreeMap<u32, Object>,
     number: u32,

@@ -12,7 +12,7 @@ use mesh_calls::TimedCall;
 use std::alloc::{AllocError, Global};
 
 /// Finds an order of effects that explains calls. Returns the numbers of the calls, which are their places in `calls`,
-/// in this order. `None` if no order was found. An error is an allocation failure.
+/// in this order. `None` if no order was found. The only error is an allocation failure.
 ///
 /// The contract states that a returned order explains the calls. If an order exists, it is found within two limits: 64
 /// accesses of an object are pending at once, and `most` configurations of an object are met at the end of an access.

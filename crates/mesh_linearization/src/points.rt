@@ -17,9 +17,9 @@ pub struct Point {
 }
 
 /// Returns the point of each call. `None` if an access is to no object, or if no order of some object's accesses was
-/// found. An error is an allocation failure.
+/// found. The only error is an allocation failure.
 ///
-/// A `new` has its effect at its end, and any other call at its begin. But an access never has its effect earlier than
+/// A `new` has its effect at its end, and any other call at its start. But an access never has its effect earlier than
 /// the accesses that precede it in the order of its object. At the end of an access, at most `most` configurations may
 /// be met.
 pub fn points_of(
@@ -51,7 +51,7 @@ fn own_points(alloc: Global, calls: &[TimedCall]) -> Result<Vec<Point>, AllocErr
     Ok(points)
 }
 
-/// The point of a call, without regard to the other calls: the end of a `new`, and the begin of any other call.
+/// The point of a call, without regard to the other calls: the end of a `new`, and the start of any other call.
 fn own_point(call: &TimedCall) -> Point {
     let moment = match &call.entry.command {
         SpeltCommand::New(_, _, _) => call.end,

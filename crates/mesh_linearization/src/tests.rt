@@ -257,7 +257,7 @@ fn random_call(seed: &mut u64, bytes: &mut [u8; 4], number: u32, moment: u64) ->
     }
 }
 
-/// The calls of a random history of 40 accesses of one object, in the order of their begins.
+/// The calls of a random history of 40 accesses of one object, in the order of their starts.
 fn random_calls(alloc: Global, seed: &mut u64) -> Result<Vec<Small>, AllocError> {
     let mut calls = Vec::new(alloc);
     let mut bytes = [0; 4];

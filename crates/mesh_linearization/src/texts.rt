@@ -15,7 +15,7 @@ use mesh_spelling::add_decimal;
 use std::alloc::{AllocError, Global};
 
 /// Returns the history of the calls in the order of these numbers. The text has the line `history 1`, and then the line
-/// `W COMMAND -> ANSWER` of each call. Each line has its end. An error is an allocation failure.
+/// `W COMMAND -> ANSWER` of each call. Each line has its end. The only error is an allocation failure.
 pub fn history_in_order(
     alloc: Global,
     calls: &[TimedCall],

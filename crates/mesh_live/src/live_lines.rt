@@ -24,11 +24,11 @@ pub enum LiveLine {
 }
 
 /// Reads a line of a live session with `workers` workers: `run W COMMAND`, or any line of a plan of version 2 except
-/// `run W`. The line is passed without its end.
+/// `run W`. The line is passed without a line end.
 ///
-/// Each command is spelt as in a script of version 2. The error is the first that holds: LONG_LINE if the line has more
-/// than 1,024 bytes, BYTE, then WORD, and otherwise the fault of the leftmost field that can't be read. `Memory` is an
-/// allocation failure, which can come only for a `pair` line.
+/// Each command is spelt as in a script of version 2. The error is the first that applies, in this order: LONG_LINE
+/// (more than 1,024 bytes), BYTE, WORD, the fault of the leftmost field that can't be read. `Memory` is an allocation
+/// failure, which is possible only for a `pair` line.
 pub fn read_live_line(alloc: Global, workers: u32, line: &[u8]) -> Result<LiveLine, LineError>
     requires { 1 ≤ workers }
     ensures ok { IfOk result (λ asked. live_line workers line.now ≡ Ok (live_of asked)) }
@@ -90,7 +90,8 @@ fn attempt_of(workers: u32, fields: &[&[u8]]) -> Result<LiveLine, FaultKind>
 }
 
 /// Returns the attempt of the worker that a field names, at a command that was read from the other fields. The error is
-/// the first that holds: WORD for the command, the fault of the worker, and any other fault of the command.
+/// the first that applies, in this order: WORD for the command, the fault of the worker, any other fault of the
+/// command.
 fn attempt_at(
     workers: u32,
     worker: &[u8],

@@ -1,4 +1,4 @@
-//! A whole session: its lines come from a device, and its answers are written to one.
+//! A whole session: its lines are read from a device, and its answers are written to a device.
 ghost use Rattle.std.specs.Prelude.{◌≡◌, ◌≢◌, ◌≤◌, ◌⊎◌, [], Err, false, true, is_err, length, vec_len, IfErr, IfOk, OnErr, OnOk};
 ghost use Rattle.std.specs.Io.KnownBytes.{Appends};
 ghost use Rattle.model_jobs.specs.Jobs.{initial_state};
@@ -80,7 +80,7 @@ fn live_on<I: Source, O: Sink>(
     write_rest(alloc, line.as_slice(), output)
 }
 
-/// Returns a buffer for the bytes of one read. An error is an allocation failure.
+/// Returns a buffer for the bytes of one read. The only error is an allocation failure.
 fn room_to_read(alloc: Global) -> Result<Vec<u8>, AllocError>
     ensures { IfOk result (λ room. vec_len room ≡ 16384) }
 {
@@ -160,7 +160,7 @@ fn take_bytes<O: Sink>(
     Ok(false)
 }
 
-/// Adds a byte to a line, unless the line already has more than 1,024 bytes. An error is an allocation failure.
+/// Adds a byte to a line, unless the line already has more than 1,024 bytes. The only error is an allocation failure.
 fn keep(line: &mut Vec<u8>, byte: u8) -> Result<(), AllocError>
     requires { byte ≢ 10 }
     ensures { OnOk result (Keeps line.old.items byte line.new.items) }
@@ -178,7 +178,7 @@ fn is_end(line: &[u8]) -> bool
     line == b"end".as_slice()
 }
 
-/// Answers a line, and writes the answer with its end.
+/// Answers a line, and writes the answer with a line end.
 fn write_answer<O: Sink>(
     alloc: Global,
     session: &mut Session,

@@ -32,9 +32,10 @@ pub struct Ended {
 /// `count` is the expected number of seats. A read that saw n entries comes after the first n entries of the journal
 /// and before the next entry. Reads at the same place are ordered by seat, and reads of one seat keep their order.
 ///
-/// The error is the first that applies of SeatMissing, SeatDiffers and ReadDiffers. If an allocation fails, the result
-/// is Memory in place of ReadDiffers or of the history. Memory never takes the place of SeatMissing or SeatDiffers,
-/// because checking for those two allocates nothing. On an error the heap, the cells and the history are dropped.
+/// The error is the first that applies, in this order: SeatMissing, SeatDiffers, ReadDiffers. If an allocation fails,
+/// the result is Memory in place of ReadDiffers or of the history. Memory never takes the place of SeatMissing or
+/// SeatDiffers, because checking for those two allocates nothing. On an error the heap, the cells and the history are
+/// dropped.
 ///
 /// The contract determines the result, except that an allocation failure is possible. The cases of its clauses exclude
 /// one another and leave no other case: a seat is missing, or a seat differs from the journal, or a read is wrong, or

@@ -16,7 +16,7 @@ pub enum OpenError {
 
 /// The reason why seats and journal don't form a history.
 ///
-/// The first that applies of `SeatMissing`, `SeatDiffers` and `ReadDiffers` is returned, but `Memory` may take the
+/// The first of `SeatMissing`, `SeatDiffers` and `ReadDiffers` that applies is returned, but `Memory` may take the
 /// place of `ReadDiffers`. Which seat and which call an error names is this project's own choice.
 #[derive(Debug, Drop, PartialEq, Eq, Error)]
 pub enum FinishError {

@@ -13,7 +13,7 @@ use mesh_plain::Plain;
 use std::alloc::AllocError;
 
 /// Moves the reads that saw `n` entries from all seats to the history, lower seats first, up to the first wrong read.
-/// Returns the seat of the wrong read, or `None` if no read is wrong. An error is an allocation failure.
+/// Returns the seat of the wrong read, or `None` if no read is wrong. The only error is an allocation failure.
 pub fn take_all<'a>(
     plain: &Plain,
     n: u32,
@@ -40,7 +40,7 @@ pub fn take_all<'a>(
 /// a read that saw more entries, or a wrong read.
 ///
 /// A read is wrong if it saw fewer entries, or if the reference memory answers otherwise. Returns the remaining calls,
-/// and whether the first of them is a wrong read. An error is an allocation failure.
+/// and whether the first of them is a wrong read. The only error is an allocation failure.
 fn take_reads<'a>(
     plain: &Plain,
     worker: u32,

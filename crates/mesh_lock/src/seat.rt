@@ -34,7 +34,7 @@ impl Model for Seat {
 }
 
 impl Seat {
-    /// Creates an empty seat with room for `room` calls. An error is an allocation failure.
+    /// Creates an empty seat with room for `room` calls. The only error is an allocation failure.
     pub fn open(alloc: Global, number: u32, room: usize) -> Result<Seat, AllocError>
         ensures { IfOk result (λ seat. seat ≡ record { number = number; calls = []; room = room }) }
     {

@@ -99,7 +99,7 @@ impl Shared {
     }
 }
 
-/// Returns an empty seat for each count, numbered from 0. An error is an allocation failure.
+/// Returns an empty seat for each count, numbered from 0. The only error is an allocation failure.
 fn seats_of(alloc: Global, counts: &[usize]) -> Result<Vec<Seat>, AllocError>
     requires few { length counts.now ≤ 64 }
     ensures { IfOk result (λ seats. IsEmptySeats 0 counts.now seats.items) }

@@ -59,7 +59,7 @@ pub fn weave(alloc: Global, seats: &[Seat], journal: &Journal) -> Result<Vec<Ent
     unless_told(history, told)
 }
 
-/// Appends an entry. An error is an allocation failure.
+/// Appends an entry. The only error is an allocation failure.
 fn add(history: &mut Vec<Entry>, entry: Entry) -> Result<(), AllocError>
     ensures { OnOk result (history.new.items ≡ history.old.items ++ entry ∷ []) }
 {
@@ -79,7 +79,7 @@ fn unless_told(history: Vec<Entry>, told: Option<(u32, usize)>) -> Result<Vec<En
     }
 }
 
-/// Returns the remaining calls of each seat before the walk: all its calls. An error is an allocation failure.
+/// Returns the remaining calls of each seat before the walk: all its calls. The only error is an allocation failure.
 fn rests_of<'a>(alloc: Global, seats: &'a [Seat]) -> Result<Vec<Rest<'a>>, AllocError>
     ensures rests { IfOk result (λ rests. rests.items ≡ calls_of_seats seats.now) }
     ensures kept { OnOk result ((w : ℕ) → All IsKept (kept_by (calls_of_seats seats.now) w)) }

@@ -10,7 +10,7 @@ use std::thread::Threads;
 /// be meshed in two pairs.
 static FREED: [u8; 4] = [1, 3, 4, 6];
 
-/// The cells of the objects that are freed so that each of the four groups keeps the object in its first slot. No two
+/// The cells of the objects that are freed. Each of the four groups then has only the object in its first slot. No two
 /// of these groups can be meshed.
 static FREED_IN_SECOND_SLOTS: [u8; 4] = [1, 3, 5, 7];
 

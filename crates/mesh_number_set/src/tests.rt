@@ -15,7 +15,7 @@ fn random(seed: &mut u64, bound: usize) -> usize
     (*seed >> 33) as usize % bound
 }
 
-/// Adds a number to the set and to the array, if the set doesn't have it. An error is an allocation failure.
+/// Adds a number to the set and to the array, if the set doesn't have it. The only error is an allocation failure.
 fn add(set: &mut NumberSet, plain: &mut [bool; 64], number: usize) -> Result<(), AllocError>
     requires { number < 64 }
 {
@@ -28,7 +28,7 @@ fn add(set: &mut NumberSet, plain: &mut [bool; 64], number: usize) -> Result<(),
     Ok(())
 }
 
-/// Removes a number from the set and from the array, if the set has it. An error is an allocation failure.
+/// Removes a number from the set and from the array, if the set has it. The only error is an allocation failure.
 fn remove(set: &mut NumberSet, plain: &mut [bool; 64], number: usize) -> Result<(), AllocError>
     requires { number < 64 }
 {
@@ -83,7 +83,7 @@ fn random_numbers_are_removed_as_from_an_array(rt: HostRuntime) {
     }
 }
 
-/// Returns the set of some numbers. A number is added only if it isn't in the set yet. An error is an allocation
+/// Returns the set of some numbers. A number is added only if it isn't in the set yet. The only error is an allocation
 /// failure.
 fn set_of(alloc: Global, numbers: &[u32]) -> Result<NumberSet, AllocError> {
     let mut set = NumberSet::new(alloc);

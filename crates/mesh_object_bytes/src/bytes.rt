@@ -117,7 +117,7 @@ impl ObjectBytes {
         bytes == self.load(off, bytes.len() as u32).as_slice()
     }
 
-    /// Returns a copy in which `bytes` are stored at offset `off`. An error is an allocation failure.
+    /// Returns a copy in which `bytes` are stored at offset `off`. The only error is an allocation failure.
     pub(crate) fn stored(
         &self,
         alloc: Global,
@@ -145,7 +145,7 @@ impl ObjectBytes {
         self.chunks.len()
     }
 
-    /// Returns a copy. An error is an allocation failure.
+    /// Returns a copy. The only error is an allocation failure.
     pub(crate) fn copied(&self, alloc: Global) -> Result<ObjectBytes, AllocError>
         ensures { IfOk result (λ copy. copy ≡ self.now) }
     {
@@ -157,7 +157,7 @@ impl ObjectBytes {
     }
 }
 
-/// Stores `bytes` in the chunks at offset `off`. An error is an allocation failure.
+/// Stores `bytes` in the chunks at offset `off`. The only error is an allocation failure.
 fn store_in(chunks: &mut Vec<Chunk>, off: u64, bytes: &[u8]) -> Result<(), AllocError>
     requires { length bytes.now ≤ 32 }
     ensures { OnOk result (chunks.new.items ≡ stored chunks.old.items off bytes.now) }

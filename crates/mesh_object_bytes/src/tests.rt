@@ -108,7 +108,7 @@ fn behind(plain: &[u8; LEN], access: &Access) -> Option<[u8; LEN]> {
 }
 
 /// Makes a random access to the state and to the array. Returns whether the access has an effect on both or on neither.
-/// If it has an effect on both, they become the state and the array after the access. An error is an allocation
+/// If it has an effect on both, they become the state and the array after the access. The only error is an allocation
 /// failure.
 fn goes_on(
     alloc: Global,
@@ -131,7 +131,7 @@ fn goes_on(
     }
 }
 
-/// Whether loads from the state return all bytes of the array. An error is an allocation failure.
+/// Whether loads from the state return all bytes of the array. The only error is an allocation failure.
 fn has_all(alloc: Global, state: &ObjectBytes, plain: &[u8; LEN]) -> Result<bool, AllocError> {
     for (number, some) in plain.chunks(20).enumerate() {
         let load = load_of((number * 20) as u64, some);
@@ -161,8 +161,8 @@ fn random_accesses_do_what_they_do_to_an_array(rt: HostRuntime) {
     }
 }
 
-/// Returns the state after stores of two equal bytes each. Returns `None` if a store ends past the object's end. An
-/// error is an allocation failure.
+/// Returns the state after stores of two equal bytes each. Returns `None` if a store ends past the object's end. The
+/// only error is an allocation failure.
 fn stored(
     alloc: Global,
     len: u64,

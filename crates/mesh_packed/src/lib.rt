@@ -2,7 +2,7 @@
 //!
 //! Most commands and replies have no such bytes. A packed command takes 16 bytes, a packed reply 12, and a `Command`
 //! 48. The kept bytes are in one list, in the order of packing, and never change. Scripts and the journal are stored in
-//! this way. A contract sees a packed command as the command that it is unpacked to (`specs/Packed.antt`).
+//!     this way. In contracts, a packed command is the command to which it is unpacked (`specs/Packed.antt`).
 #![tactic(auto)]
 
 mod command;

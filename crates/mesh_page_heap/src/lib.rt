@@ -7,8 +7,8 @@
 //! `StepOrder` of `mesh_running` gives the number of steps of a mesh and the next step. The module `steps` applies a
 //! step to pages and page map. The crate `mesh_steps` builds the heap of objects for mutators on this crate.
 //!
-//! A contract sees a page heap as its physical pages, its page map, its span index, the next virtual page and the
-//! running meshes.
+//! In contracts, a page heap consists of its physical pages, its page map, its span index, the next virtual page and
+//! the running meshes.
 #![tactic(auto)]
 
 mod answers;

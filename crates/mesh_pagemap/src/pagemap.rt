@@ -48,7 +48,8 @@ impl Model for PageMap {
 
 #[tactic(auto, using(crate::proofs::Changes::entry_changes))]
 impl PageMap {
-    /// Creates an empty map. Allocates all the memory that the map will ever use. An error is an allocation failure.
+    /// Creates an empty map. Allocates all the memory that the map will ever use. The only error is an allocation
+    /// failure.
     pub fn new(alloc: Global) -> Result<PageMap, AllocError>
         ensures empty { IfOk result (λ m. m ≡ map.empty) }
         ensures unmapped { IfOk result (λ m. (v : ℕ) → is_mapped m v ≡ false) }

@@ -43,7 +43,7 @@ pub struct Measured {
 }
 
 impl Measure {
-    /// Returns a measure without points. The next line to come has the number `next`.
+    /// Returns a measure without points. The line that is expected next has the number `next`.
     pub fn new(alloc: Global, next: usize) -> Measure
         ensures { result ≡ next }
     {
@@ -58,14 +58,14 @@ impl Measure {
         }
     }
 
-    /// The number of the next line to come.
+    /// The number of the line that is expected next.
     pub fn next_line(&self) -> usize
         ensures { result ≡ self.now }
     {
         self.next
     }
 
-    /// Measures a line of the plan, and the heap after it. An error is an allocation failure.
+    /// Measures a line of the plan, and the heap after it. The only error is an allocation failure.
     pub fn point(&mut self, line: &Line<'_>, frame: &Frame) -> Result<(), AllocError>
         ensures { OnOk result (self.new ≡ line.now.number + 1) }
     {

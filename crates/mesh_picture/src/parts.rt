@@ -82,7 +82,7 @@ fn add_parts(
     Ok(())
 }
 
-/// Adds the part of an object that is in the page at a place of its span, if there is one.
+/// Adds the part of an object that is in one page of the object's span, if there is such a part.
 fn add_part(
     parts: &mut Vec<Part>,
     object: &Object,

@@ -74,7 +74,7 @@ pub struct Drawn<'a> {
 }
 
 impl Picture {
-    /// Returns a picture with these measurements, before its first frame. An error is an allocation failure.
+    /// Returns a picture with these measurements, before its first frame. The only error is an allocation failure.
     pub fn new(
         alloc: Global,
         measure: Measure,
@@ -95,14 +95,14 @@ impl Picture {
         })
     }
 
-    /// The number of the next line to come.
+    /// The number of the line that is expected next.
     pub fn next_line(&self) -> usize
         ensures { result ≡ self.now }
     {
         self.next
     }
 
-    /// Appends the text that comes before the first frame. If `text` was empty, it then begins as an SVG file does.
+    /// Appends the text before the first frame. If `text` was empty, it afterwards begins as an SVG file does.
     pub fn head(&self, text: &mut Text)
         ensures { text.old ≡ Some [] → IfSome text.new (Begins (codes "<svg")) }
     {
@@ -158,7 +158,7 @@ impl Picture {
     }
 
     /// Takes a line of the plan and the heap after it, and adds a frame if the picture has changed. The points must be
-    /// those that were measured, in the same order. An error is an allocation failure.
+    /// those that were measured, in the same order. The only error is an allocation failure.
     pub fn point(
         &mut self,
         line: &Line<'_>,
@@ -178,7 +178,7 @@ impl Picture {
         Ok(())
     }
 
-    /// Adds a last frame if there are lines after the last change, and then the end of the file. An error is an
+    /// Adds a last frame if there are lines after the last change, and then the end of the file. The only error is an
     /// allocation failure.
     pub fn end(&self, text: &mut Text) -> Result<(), AllocError> {
         if !self.gathering.captions.is_empty() {

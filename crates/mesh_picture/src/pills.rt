@@ -82,7 +82,7 @@ const PAD: u32 = 70;
 /// The width of the page counts, which are next to the first caption.
 const BESIDE: u32 = 1_800;
 
-/// The width that a card needs for a caption. An error is an allocation failure.
+/// The width that a card needs for a caption. The only error is an allocation failure.
 pub fn caption_width(caption: &Caption) -> Result<u32, AllocError> {
     let words = width_of(Face::Line, told(caption).whole()?);
     let answer = width_of(Face::Pill, caption.answer.as_slice());

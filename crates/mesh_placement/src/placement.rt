@@ -110,9 +110,9 @@ impl Placement {
     /// lowest group of its class that has a free slot, or else of a new span. `word` selects one of the free slots.
     /// `is_full` must be false before the call.
     ///
-    /// The error is the first of ZERO, TOO_LARGE and NO_ADDRESSES that applies. If none applies, but the allocation for
-    /// a new span fails, the error is `Memory`. NO_PAGES is never returned, because there are always enough physical
-    /// pages. After an error, nothing has changed.
+    /// The error is the first that applies, in this order: ZERO, TOO_LARGE, NO_ADDRESSES. If none applies, but the
+    /// allocation for a new span fails, the error is `Memory`. NO_PAGES is never returned, because there are always
+    /// enough physical pages. After an error, nothing has changed.
     pub fn new(&mut self, len: u32, word: u64) -> Result<(Span, Slot), NewFault>
         requires { self.old.next_serial < 2 ^ 32 - 1 }
         ensures made { IfOk result (λ r. IsMade self.old self.new len word r.0 r.1) }

@@ -6,7 +6,7 @@ use arrayvec::ArrayVec;
 use model_words::MAX_BYTES;
 use std::alloc::{AllocError, Global};
 
-/// Returns `len` zeros. An error is an allocation failure.
+/// Returns `len` zeros. The only error is an allocation failure.
 pub fn zeros(alloc: Global, len: usize) -> Result<Vec<u8>, AllocError>
     ensures { IfOk result (λ bytes. bytes.items ≡ replicate len 0) }
 {
@@ -33,8 +33,8 @@ pub fn store_at(all: &mut Vec<u8>, start: usize, bytes: &[u8])
     all[start..start + bytes.len()].copy_from_slice(bytes);
 }
 
-/// Copies `len` bytes from index `from` to index `to`. If the two ranges overlap, the bytes from before the copy are
-/// copied.
+/// Copies `len` bytes from index `from` to index `to`. If the two ranges overlap, the copied bytes are those that the
+/// source range had before the copy.
 pub fn copy_within(all: &mut Vec<u8>, to: usize, from: usize, len: usize)
     requires target { to + len ≤ length all.old.items }
     requires source { from + len ≤ length all.old.items }

@@ -12,7 +12,8 @@ use std::alloc::{AllocError, Global};
 use std::collections::BTreeMap;
 use std::mem;
 
-/// Adds an object and stores its serial in a cell. An error is an allocation failure; nothing changes then.
+/// Adds an object and stores its serial in a cell. The only error is an allocation failure, after which nothing has
+/// changed.
 pub fn add(
     objects: &mut BTreeMap<u32, Stored>,
     roots: &mut BTreeMap<u8, u32>,
@@ -36,7 +37,7 @@ pub fn add(
     Ok(())
 }
 
-/// Stores a serial in a cell. An error is an allocation failure; nothing changes then.
+/// Stores a serial in a cell. The only error is an allocation failure, after which nothing has changed.
 pub fn point(roots: &mut BTreeMap<u8, u32>, cell: u8, serial: u32) -> Result<(), AllocError>
     ensures done { OnOk result (Updates nat_cmp roots.old roots.new cell (Some serial)) }
     ensures same { OnErr result (IsSameAt (get nat_cmp roots.old) (get nat_cmp roots.new)) }
@@ -74,8 +75,8 @@ fn reaches(object: &Stored, address: u32) -> bool
     object.address <= address && ((address - object.address) as usize) < object.bytes.len()
 }
 
-/// Stores bytes from offset `off` in the live object of a serial. The error is the first of `Freed` and `Outside` that
-/// holds.
+/// Stores bytes from offset `off` in the live object of a serial. The error is the first that applies, in this order:
+/// `Freed`, `Outside`.
 pub fn overwrite(
     objects: &mut BTreeMap<u32, Stored>,
     serial: u32,
@@ -96,7 +97,7 @@ pub fn overwrite(
 }
 
 /// Copies `len` bytes from one live object to another, or within one object. `to` and `from` are each a serial and an
-/// offset. The error is the first of `Freed` and `Outside` that holds.
+/// offset. The error is the first that applies, in this order: `Freed`, `Outside`.
 pub fn copy(
     alloc: Global,
     objects: &mut BTreeMap<u32, Stored>,

@@ -50,7 +50,7 @@ impl Value for Alike {
     }
 }
 
-/// Returns the list of the numbers below `last`, ascending. An error is an allocation failure.
+/// Returns the list of the numbers below `last`, ascending. The only error is an allocation failure.
 fn up_to(alloc: Global, last: u32) -> Result<Text, AllocError> {
     let mut words = Vec::new(alloc);
     for word in 0..last {
@@ -59,8 +59,7 @@ fn up_to(alloc: Global, last: u32) -> Result<Text, AllocError> {
     Ok(Text { words })
 }
 
-/// Returns the numbers that a pool gives to some lists, one after another. An error is an allocation failure, or the
-/// pool's error.
+/// Returns the numbers that a pool gives to some lists, one after another. Returns an error if an allocation fails.
 fn numbers(alloc: Global) -> Result<Vec<u32>, AllocError> {
     let mut pool = Pool::new(alloc);
     let mut numbers = Vec::new(alloc);

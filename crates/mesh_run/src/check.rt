@@ -84,7 +84,7 @@ fn status_of_judgement(judgement: &Judgement) -> u8
     }
 }
 
-/// The line of an error, with its end.
+/// The line of an error, with a line end.
 pub(crate) fn check_line_of(error: CheckError) -> Line
     ensures { result.items ≡ ended (check_error_text error) }
 {

@@ -7,7 +7,7 @@ use thiserror::Error;
 /// The reason why a recorded history isn't judged, or why its verdict isn't written.
 #[derive(Clone, Copy, Debug, PartialEq, Eq, Error)]
 pub enum CheckError {
-    /// A fault that stops a replay too.
+    /// A fault that also stops a replay.
     #[error("{0}")]
     Replay(ReplayError),
     /// The call on this line is out of order.

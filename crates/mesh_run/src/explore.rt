@@ -124,7 +124,7 @@ fn write_listing<I: Source, O: Sink, W: Watch>(
     explore(alloc, input, output, &options, watch)
 }
 
-/// The line of an error of an exploration with a limit of `states` states, with its end.
+/// The line, with a line end, that reports an error of an exploration. The exploration's limit is `states` states.
 pub(crate) fn explore_line_of(error: ExploreError, states: u32) -> Line
     ensures { result.items ≡ ended (explore_text states error) }
 {

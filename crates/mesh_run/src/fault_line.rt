@@ -11,10 +11,10 @@ use mesh_devices::ReplayError;
 use mesh_text::TextFault;
 
 /// The bytes of a line, with room for the longest: `too many states: more than 4294967295; --states raises the limit`
-/// and its end.
+/// with a line end.
 pub(crate) type Line = ArrayVec<u8, 72>;
 
-/// The line of an error, with its end.
+/// The line of an error, with a line end.
 pub(crate) fn line_of(error: ReplayError) -> Line
     ensures { result.items ≡ ended (error_text error) }
 {
@@ -29,7 +29,7 @@ pub(crate) fn line_of(error: ReplayError) -> Line
     line
 }
 
-/// The line of an error of a run in threads, with its end.
+/// The line of an error of a run in threads, with a line end.
 pub(crate) fn threads_line_of(error: ThreadsError) -> Line
     ensures { result.items ≡ ended (threads_text error) }
 {
@@ -41,7 +41,7 @@ pub(crate) fn threads_line_of(error: ThreadsError) -> Line
     }
 }
 
-/// A line of these bytes and its end.
+/// A line of these bytes, with a line end.
 pub(crate) fn line_with(bytes: &[u8]) -> Line
     requires { length bytes.now ≤ 71 }
     ensures { result.items ≡ ended bytes.now }
@@ -52,7 +52,7 @@ pub(crate) fn line_with(bytes: &[u8]) -> Line
     line
 }
 
-/// A line with a number between `before` and `behind`, and its end.
+/// A line that consists of `before`, a number in decimal and `behind`, with a line end.
 pub(crate) fn number_line(before: &[u8], number: u32, behind: &[u8]) -> Line
     requires { length before.now + length behind.now ≤ 61 }
     ensures { result.items ≡ ended (before.now ++ decimal number ++ behind.now) }

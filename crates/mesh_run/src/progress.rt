@@ -75,7 +75,7 @@ impl<'a, C: Clock, S: Sink> Watch for Progress<'a, C, S> {
     }
 }
 
-/// The line for a number of states and the time passed, with its end.
+/// The line for a number of states and the time passed, with a line end.
 fn progress_line(states: usize, passed: Duration) -> Line {
     let millis = passed.as_millis().max(1);
     let a_second = (states as u128).saturating_mul(1000) / millis;

@@ -94,14 +94,14 @@ fn write_report<I: Source, O: Sink>(
     Ok(report.used_up_at)
 }
 
-/// The line of the call for which a heap had no virtual pages left, with its end.
+/// The line, with a line end, for a call for which a heap had too few virtual pages left.
 fn used_up_line(call: u32) -> Line
     ensures { result.items ≡ ended (used_up_text call) }
 {
     number_line(b"addresses used up at call ", call, b"")
 }
 
-/// The line of an error, with its end.
+/// The line of an error, with a line end.
 fn savings_line_of(error: SavingsError) -> Line
     ensures { result.items ≡ ended (savings_text error) }
 {

@@ -114,7 +114,7 @@ fn patterns(alloc: Global, texts: &[&str]) -> Result<Vec<Pattern>, VerdictError>
     Ok(patterns)
 }
 
-/// Adds a pattern. An error is an allocation failure.
+/// Adds a pattern. The only error is an allocation failure.
 fn add(patterns: &mut Vec<Pattern>, pattern: Pattern) -> Result<(), AllocError>
     ensures { OnOk result (patterns.new.items ≡ patterns.old.items ++ pattern ∷ []) }
 {
@@ -122,7 +122,7 @@ fn add(patterns: &mut Vec<Pattern>, pattern: Pattern) -> Result<(), AllocError>
     Ok(())
 }
 
-/// The line of an error, with its end.
+/// The line of an error, with a line end.
 fn verdict_line_of(error: VerdictError, states: u32) -> Line
     ensures { result.items ≡ ended (verdict_text states error) }
 {

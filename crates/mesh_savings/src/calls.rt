@@ -1,4 +1,4 @@
-//! The calls of a recorded history that both heaps replay.
+//! Those calls of a recorded history that both heaps replay.
 ghost use Rattle.std.specs.Prelude.{◌≡◌};
 ghost use Rattle.mesh_history.specs.RecordedWords.{plain_entry};
 ghost use Rattle.mesh_savings.specs.Calls.{call_of};

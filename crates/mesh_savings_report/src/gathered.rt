@@ -21,7 +21,7 @@ pub(crate) enum Gathered {
 }
 
 impl Gathered {
-    /// Returns the data of no samples, in the form that the options ask for. An error is an allocation failure.
+    /// Returns the data of no samples, in the form that the options ask for. The only error is an allocation failure.
     pub(crate) fn new(alloc: Global, options: &SavingsOptions) -> Result<Gathered, AllocError>
         ensures { IfOk result (λ gathered. IsOf gathered options.now []) }
     {
@@ -58,7 +58,7 @@ impl Gathered {
     }
 
     /// Returns the text of the table or of the plot. The table shows these counts of the whole run; the plot shows no
-    /// counts. An error is an allocation failure.
+    /// counts. The only error is an allocation failure.
     pub(crate) fn text(&self, alloc: Global, counts: &Counts) -> Result<Vec<u8>, AllocError>
         ensures { (options : SavingsOptions) (samples : List Sample) → IsOf self.now options samples
             → IfOk result (λ text. IsShownAs options.form options.window samples counts.now text.items) }

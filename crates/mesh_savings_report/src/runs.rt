@@ -28,7 +28,7 @@ pub(crate) struct Run {
 }
 
 impl Run {
-    /// Returns a run before its first call. An error is an allocation failure.
+    /// Returns a run before its first call. The only error is an allocation failure.
     pub(crate) fn new(alloc: Global, options: &SavingsOptions) -> Result<Run, AllocError>
         ensures { IfOk result (λ run. IsRun run options.now (start options.now.settings) []) }
     {
@@ -55,8 +55,8 @@ impl Run {
         self.savings.counts().calls
     }
 
-    /// Makes the next call in both heaps, and adds a sample. A call that can't be made changes nothing. An error is an
-    /// allocation failure.
+    /// Makes the next call in both heaps, and adds a sample. A call that can't be made changes nothing. The only error
+    /// is an allocation failure.
     pub(crate) fn take(&mut self, call: &Call) -> Result<Taken, AllocError>
         requires { HasRoom self.old }
         ensures { IfOk result (IsTakenBy self.old self.new (λ options f. step options.settings f call.now)) }
@@ -100,7 +100,7 @@ impl Run {
         }
     }
 
-    /// Returns the table of the calls so far, or their plot. An error is an allocation failure.
+    /// Returns the table of the calls so far, or their plot. The only error is an allocation failure.
     pub(crate) fn text(&self, alloc: Global) -> Result<Vec<u8>, AllocError>
         ensures { (options : SavingsOptions) (f : Followed) (samples : List Sample) → IsRun self.now options f samples
             → IfOk result (λ text. IsShown options f samples text.items) }

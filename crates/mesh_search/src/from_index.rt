@@ -11,7 +11,7 @@ use std::alloc::{AllocError, Global};
 
 /// Returns the candidates of a class in the index, ascending: its groups that are in no mesh, not empty and not full.
 ///
-/// An error is an allocation failure.
+/// The only error is an allocation failure.
 pub fn class_view(alloc: Global, spans: &Spans, class: Class) -> Result<ClassView, AllocError>
     ensures { IfOk result
         (λ view. view ≡ viewed class (filter (may_be_paired (is_closed spans.now) class) (groups_of spans.now))) }

@@ -1,11 +1,11 @@
 //! The split search: which groups of a class a mesher may pair.
 //!
 //! A `ClassView` contains the candidates of one class; `class_view` builds it from the index. `search_one` shuffles the
-//! candidates, cuts the order into two lists and tries these lists against one another in rounds. `split_mesh` does the
-//! same with a given order.
+//! candidates, splits the shuffled order into two lists, and tries candidates of one list with candidates of the other
+//! in rounds. `split_mesh` does the same with a given order.
 //!
 //! `search` runs each round on as many scoped threads as it has workers, and returns the same pairs. For every view
-//! that a heap has, `search_one` is faster. A contract sees a view as the definition does: its candidates, each a
+//! that a heap has, `search_one` is faster. In contracts, a view is the list of its candidates, and a candidate is a
 //! number and a set of slots.
 #![tactic(auto)]
 

@@ -160,7 +160,7 @@ impl<'a, R: Threads + Wait + Sync, G: Gate + Sync> Mesher<'a, R, G> {
         })
     }
 
-    /// Returns the views of the mesher's classes, taken under the shared lock. An error is an allocation failure.
+    /// Returns the views of the mesher's classes, taken under the shared lock. The only error is an allocation failure.
     fn own_views(&self) -> Result<Vec<ClassView>, AllocError>
         requires { 1 ≤ self.now.plan.now.meshers }
         ensures { IfOk result (λ own. AreOwn self.now.plan.now self.now.number own.items) }

@@ -56,7 +56,7 @@ impl Spans {
     /// Makes an index without spans. It keeps the allocator for the spans that are added. The table of virtual pages is
     /// allocated here.
     ///
-    /// An error is an allocation failure.
+    /// The only error is an allocation failure.
     pub fn new(alloc: Global) -> Result<Spans, AllocError>
         ensures spans { IfOk result (λ s. s.spans ≡ []) }
         ensures groups { IfOk result (λ s. s.groups ≡ []) }
@@ -78,8 +78,9 @@ impl Spans {
         let _spans = self.spans.len();
     }
 
-    /// Adds a span of these virtual and physical pages, with a group of its own, and returns its number. An error is an
-    /// allocation failure; the index is unchanged then. Once an index is made, no other call on it allocates.
+    /// Adds a span of these virtual and physical pages, with a group of its own, and returns its number. The only error
+    /// is an allocation failure, after which the index is unchanged. Once an index is made, no other call on it
+    /// allocates.
     pub fn add_span(&mut self, class: Class, first: u32, pages: &[Page]) -> Result<Span, AllocError>
         requires first { 1 ≤ first }
         requires last { first + pages_of class ≤ 65536 }

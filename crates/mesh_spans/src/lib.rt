@@ -1,8 +1,8 @@
 //! The span index: which virtual spans there are, which group each belongs to, and the record of every object.
 //!
 //! A span is a run of virtual pages of one size class, cut into slots. A group is one physical span with its members,
-//! the virtual spans that are mapped to it. A contract sees the index as two lists: the spans, and the groups with the
-//! content of their slots. The counts over all groups are updated as groups change.
+//! the virtual spans that are mapped to it. In contracts, the index consists of two lists: the spans, and the groups
+//! with the content of their slots. The counts over all groups are updated as groups change.
 #![tactic(auto)]
 
 mod extent;

@@ -30,7 +30,7 @@ impl Model for Owners {
 }
 
 impl Owners {
-    /// Makes a table in which no page has an owner. An error is an allocation failure.
+    /// Makes a table in which no page has an owner. The only error is an allocation failure.
     pub(crate) fn new(alloc: Global) -> Result<Owners, AllocError>
         ensures { IfOk result (λ owners. owners ≡ []) }
     {

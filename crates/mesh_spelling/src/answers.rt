@@ -11,7 +11,7 @@ pub use mesher::{add_counted, add_found, add_report, add_step};
 use model_words::{MAX_BYTES, Refusal, Reply};
 use std::alloc::AllocError;
 
-/// Appends the answer line of a reply, without a line end. An error is an allocation failure.
+/// Appends the answer line of a reply, without a line end. The only error is an allocation failure.
 pub fn add_reply(text: &mut Vec<u8>, reply: &Reply) -> Result<(), AllocError>
     ensures { OnOk result (text.new.items ≡ text.old.items ++ reply_text reply.now) }
 {
@@ -44,7 +44,7 @@ fn add_object(text: &mut Vec<u8>, serial: u32, address: u32) -> Result<(), Alloc
     add_address(text, u64::from(address))
 }
 
-/// Adds `refused NUMBER NAME`. An error is an allocation failure.
+/// Adds `refused NUMBER NAME`. The only error is an allocation failure.
 pub fn add_refusal(text: &mut Vec<u8>, refusal: Refusal) -> Result<(), AllocError>
     ensures { OnOk result (text.new.items ≡ text.old.items ++ refusal_text refusal) }
 {
@@ -54,7 +54,7 @@ pub fn add_refusal(text: &mut Vec<u8>, refusal: Refusal) -> Result<(), AllocErro
     text.extend_from_slice(refusal.name().as_bytes())
 }
 
-/// Adds a number in decimal digits without a leading zero. An error is an allocation failure.
+/// Adds a number in decimal digits without a leading zero. The only error is an allocation failure.
 pub fn add_decimal(text: &mut Vec<u8>, number: u64) -> Result<(), AllocError>
     ensures { OnOk result (text.new.items ≡ text.old.items ++ decimal number) }
 {
@@ -65,7 +65,7 @@ pub fn add_decimal(text: &mut Vec<u8>, number: u64) -> Result<(), AllocError>
 /// The greatest number of hexadecimal digits of an address.
 const MAX_DIGITS: usize = 16;
 
-/// Adds an address in hexadecimal digits without a leading zero. An error is an allocation failure.
+/// Adds an address in hexadecimal digits without a leading zero. The only error is an allocation failure.
 #[tactic(auto, using(crate::proofs::Addresses::few_digits, crate::proofs::Addresses::address_digits))]
 pub fn add_address(text: &mut Vec<u8>, address: u64) -> Result<(), AllocError>
     ensures wide { OnOk result (text.new.items ≡ text.old.items ++ wide_text address) }
@@ -92,7 +92,7 @@ fn push_address(text: &mut Vec<u8>, address: u64)
     text.push_reserved(digit((address % 16) as u8));
 }
 
-/// Adds up to 32 bytes, two hexadecimal digits each, in lower case. An error is an allocation failure.
+/// Adds up to 32 bytes, two hexadecimal digits each, in lower case. The only error is an allocation failure.
 pub fn add_bytes(text: &mut Vec<u8>, bytes: &[u8]) -> Result<(), AllocError>
     requires { length bytes.now ≤ 32 }
     ensures { OnOk result (text.new.items ≡ text.old.items ++ bytes_text bytes.now) }

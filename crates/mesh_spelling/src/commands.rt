@@ -7,7 +7,7 @@ use crate::answers::{add_address, add_bytes, add_decimal};
 use model_words::Command;
 use std::alloc::AllocError;
 
-/// Adds a command, as a job file spells it. An error is an allocation failure.
+/// Adds a command, as a job file spells it. The only error is an allocation failure.
 pub fn add_command(text: &mut Vec<u8>, command: &Command) -> Result<(), AllocError>
     ensures { OnOk result (text.new.items ≡ text.old.items ++ command_text command.now) }
 {

@@ -10,13 +10,13 @@ use mesh_mutator::Entry;
 use model_words::Reply;
 use std::alloc::{AllocError, Global};
 
-/// The lines of a history of `workers` workers, each with its end. For each worker, in ascending order, there is a line
-/// `worker W` and then the answers to its commands in their order. The last line is `history N` with the number of all
-/// entries.
+/// The lines of a history of `workers` workers, each with a line end. For each worker, in ascending order, there is a
+/// line `worker W` and then the answers to its commands in their order. The last line is `history N` with the number of
+/// all entries.
 ///
 /// A new object is printed as `object`, and an address as `at`, because serials and addresses depend on the scheduling
-/// of the threads. Any other answer is printed as in a replay. The history is traversed once. An error is an allocation
-/// failure.
+/// of the threads. Any other answer is printed as in a replay. The history is traversed once. The only error is an
+/// allocation failure.
 pub fn history_lines(alloc: Global, workers: u32, history: &[Entry]) -> Result<Vec<u8>, AllocError>
     requires { All (λ entry. entry.worker < workers) history.now }
     ensures { IfOk result (λ text. text.items ≡ history_text workers history.now) }

@@ -4,8 +4,8 @@
 //! The other `add_..` functions append a command or a plan line in the format of a job file, or a whole job.
 //!
 //! `history_lines` returns the text of a history in which each worker's answers are together. `recorded_history`
-//! returns the text of a history whose entries are in order, each with its command. An error is an allocation failure
-//! throughout.
+//! returns the text of a history whose entries are in order, each with its command. Every error is an allocation
+//! failure.
 #![tactic(auto)]
 
 mod answers;

@@ -75,8 +75,8 @@ impl Heap {
     /// Makes an object of `len` zero bytes, and returns a reference to it. `word` picks one of the free slots of the
     /// object's group. `is_full` must be false before the call.
     ///
-    /// The error is the first of ZERO, TOO_LARGE, NO_PAGES and NO_ADDRESSES that applies. If none applies, but an
-    /// allocation for a new span fails, the error is `Memory`. After an error, nothing has changed.
+    /// The error is the first that applies, in this order: ZERO, TOO_LARGE, NO_PAGES, NO_ADDRESSES. If none applies,
+    /// but an allocation for a new span fails, the error is `Memory`. After an error, nothing has changed.
     pub fn new(&mut self, len: u32, word: u64) -> Result<Ref, NewFault>
         requires { self.old.next_serial < 2 ^ 32 - 1 }
         ensures made { IfOk result (IsMade self.old self.new len word) }

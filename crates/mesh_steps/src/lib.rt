@@ -3,8 +3,8 @@
 //! A mutator makes, reads, writes, copies and frees objects. Meanwhile, a mesher puts two groups on one physical span,
 //! step by step. The addresses and bytes of objects don't change.
 //!
-//! A contract sees a heap as its physical pages, its page map, its span index, the next virtual page, the running
-//! meshes and the next serial.
+//! In contracts, a heap consists of its physical pages, its page map, its span index, the next virtual page, the
+//! running meshes and the next serial.
 #![tactic(auto)]
 
 mod answers;

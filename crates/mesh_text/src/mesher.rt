@@ -13,7 +13,7 @@ use mesh_steps::StepDone;
 use model_words::{Refusal, Version};
 use std::alloc::{AllocError, Global};
 
-/// Searches a class for pairs, without changing the book. An error is an allocation failure.
+/// Searches a class for pairs, without changing the book. The only error is an allocation failure.
 pub(crate) fn pair(alloc: Global, book: &Book, asked: &Search) -> Result<Found, AllocError>
     ensures { IfOk result
         (λ found. IsCall (λ state.

@@ -28,7 +28,7 @@ impl Drop for Turns {
 }
 
 impl Turns {
-    /// Returns a fresh heap, with each worker at the beginning of its script. An error is an allocation failure.
+    /// Returns a fresh heap, with each worker at the beginning of its script. The only error is an allocation failure.
     pub fn open(alloc: Global, job: &Job) -> Result<Turns, AllocError>
         ensures workers { IfOk result (λ turns. worker_count turns ≡ length job.now.scripts) }
         ensures initial_state { IfOk result
@@ -66,7 +66,7 @@ impl Turns {
     }
 
     /// Plays the line of a job's plan at a place, counted from 0, and stores its answer in `text`, without the line's
-    /// end. All lines before it must have been played. An error is an allocation failure.
+    /// end. All lines before it must have been played. The only error is an allocation failure.
     pub fn play(
         &mut self,
         alloc: Global,
@@ -84,7 +84,8 @@ impl Turns {
         self.answer(alloc, job, &job.plan.lines()[place], text)
     }
 
-    /// Performs a line of the plan and appends its answer, without the line's end. An error is an allocation failure.
+    /// Performs a line of the plan and appends its answer, without the line's end. The only error is an allocation
+    /// failure.
     pub fn answer(
         &mut self,
         alloc: Global,
@@ -129,7 +130,7 @@ impl Turns {
     }
 
     /// Attempts a command that is in no script, for a worker whose own script is over. Appends the answer, without the
-    /// line's end. An error is an allocation failure.
+    /// line's end. The only error is an allocation failure.
     pub fn attempt(
         &mut self,
         worker: u32,

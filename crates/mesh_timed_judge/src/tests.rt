@@ -81,8 +81,8 @@ enum Event {
     Ends(u32),
 }
 
-/// Whether some configuration was left after the last end. At most `most` configurations may be met at an end. Returns
-/// `None` in four cases:
+/// Whether some configuration was left after the last call had ended. At most `most` configurations may be met at an
+/// end. Returns `None` in four cases:
 ///
 /// - The judge returned an error.
 /// - A call begins under the number of a pending call.

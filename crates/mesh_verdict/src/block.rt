@@ -6,8 +6,8 @@ use mesh_pool::{Value, with_bytes};
 use std::alloc::{AllocError, Global};
 use std::marker::Model;
 
-/// The text of an outcome: a line, with its end, for each worker that has a reply. In a pattern, a block is the text of
-/// one reply.
+/// The text of an outcome: for each worker that has a reply, a line with a line end. In a pattern, a block is the text
+/// of one reply.
 #[derive(Drop)]
 pub struct Block {
     bytes: Vec<u8>,
@@ -38,7 +38,7 @@ impl Block {
         Block { bytes }
     }
 
-    /// Appends a line and its end. An error is an allocation failure.
+    /// Appends a line and a line end. The only error is an allocation failure.
     pub(crate) fn add_line(&mut self, line: &[u8]) -> Result<(), AllocError>
         ensures { OnOk result (self.new ≡ self.old ++ ended line.now) }
     {
@@ -47,7 +47,7 @@ impl Block {
         Ok(())
     }
 
-    /// Returns a copy of the block. An error is an allocation failure.
+    /// Returns a copy of the block. The only error is an allocation failure.
     pub(crate) fn copied(&self) -> Result<Block, AllocError>
         ensures { IfOk result (λ copy. copy ≡ self.now) }
     {

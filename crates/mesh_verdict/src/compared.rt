@@ -8,7 +8,7 @@ use crate::block::Block;
 use mesh_pool::Pool;
 use std::alloc::{AllocError, Global};
 
-/// Returns the blocks, each once. An error is an allocation failure, or that there are more than 2^32 blocks.
+/// Returns the blocks, each once. Returns an error if an allocation fails, or if there are more than 2^32 blocks.
 pub(crate) fn pool_of(alloc: Global, blocks: &[Block]) -> Result<Pool<Block>, AllocError>
     ensures { IfOk result (λ pool. (x : List ℕ) → IsKept pool x ↔ IsKept blocks.now x) }
 {
@@ -20,7 +20,7 @@ pub(crate) fn pool_of(alloc: Global, blocks: &[Block]) -> Result<Pool<Block>, Al
     Ok(pool)
 }
 
-/// Returns the blocks that `others` doesn't contain, each once. An error is an allocation failure.
+/// Returns the blocks that `others` doesn't contain, each once. The only error is an allocation failure.
 pub(crate) fn absent(
     alloc: Global,
     blocks: &Pool<Block>,
@@ -38,7 +38,7 @@ pub(crate) fn absent(
     Ok(absent)
 }
 
-/// Returns the places of the blocks that `others` doesn't contain, in ascending order. An error is an allocation
+/// Returns the places of the blocks that `others` doesn't contain, in ascending order. The only error is an allocation
 /// failure.
 pub(crate) fn places_absent(
     alloc: Global,

@@ -35,8 +35,8 @@ impl Verdict {
     }
 }
 
-/// Compares the outcomes of a listing with those that a text lists. An error is an allocation failure, or that there
-/// are more than 2^32 outcomes.
+/// Compares the outcomes of a listing with those that a text lists. Returns an error if an allocation fails, or if
+/// there are more than 2^32 outcomes.
 pub fn judged(
     alloc: Global,
     reached: &Reached<Explorer<'_>>,
@@ -91,7 +91,7 @@ pub(crate) fn outcome_at(outcomes: &[Outcome], at: usize) -> Outcome
     outcomes[at]
 }
 
-/// Returns the text of the workers' replies in the state at a place. An error is an allocation failure.
+/// Returns the text of the workers' replies in the state at a place. The only error is an allocation failure.
 pub(crate) fn text_at(
     alloc: Global,
     states: &Explorer<'_>,

@@ -16,7 +16,7 @@ use model_words::Reply;
 use std::alloc::{AllocError, Global};
 
 /// Returns the place, in a listing's outcomes, of the first outcome that matches one of the patterns. `None` if there
-/// is no such outcome. An error is an allocation failure.
+/// is no such outcome. The only error is an allocation failure.
 pub fn first_match(
     alloc: Global,
     reached: &Reached<Explorer<'_>>,
@@ -108,7 +108,7 @@ fn are_met(alloc: Global, pieces: &[Block], replies: &[Reply]) -> Result<bool, A
     Ok(replies.is_empty())
 }
 
-/// Whether the piece is the reply's text between two spaces, or is ` * `, which matches any reply.
+/// Whether the piece is the reply's text with a space before and after it, or is ` * `, which matches any reply.
 fn is_met(alloc: Global, piece: &[u8], reply: &Reply) -> Result<bool, AllocError>
     ensures { IfOk result (λ is. is ≡ is_met piece.now reply.now) }
 {

@@ -13,7 +13,7 @@ pub(crate) struct Report {
 }
 
 /// Returns the text of a verdict that fails: the missing outcomes, the unexpected outcomes, and the first outcome that
-/// matches a pattern. An error is an allocation failure.
+/// matches a pattern. The only error is an allocation failure.
 pub(crate) fn fault_text(
     alloc: Global,
     reached: &Reached<Explorer<'_>>,
@@ -35,7 +35,7 @@ pub(crate) fn fault_text(
     Ok(text)
 }
 
-/// Appends the line `word`, the lines of an outcome, and the lines of a plan with this outcome.
+/// Appends the line `word`, the lines of an outcome, and the lines of a plan that leads to the outcome.
 fn add_outcome(
     alloc: Global,
     text: &mut Vec<u8>,

@@ -2,7 +2,7 @@
 //! function that does nothing.
 ghost use Rattle.model_heap.specs.ProtectionLaws.{StartsWritable, ProtectsNext, HoldsWhileCopying, UnprotectsNext, ReleasesWritable, CancelHolds, UnwindsNext, UnwoundIsWritable, ReadOnlyByMeshes, BlockedByPages};
 
-/// The read-only pages are those that are read-only after the steps, applied one after another.
+/// How each step of a mesh, and a cancel, changes which pages are read-only.
 pub fn read_only_by_steps()
     ensures starts { StartsWritable }
     ensures protects { ProtectsNext }

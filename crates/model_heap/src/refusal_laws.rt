@@ -8,7 +8,7 @@ pub fn meshes_are_refused_by_lowest()
     ensures whole { WholeIsRefusedByLowest }
 {}
 
-/// A sweep is refused with the lowest refusal that holds. The refusal BUSY holds if the group is in a running mesh.
+/// A sweep is refused with the lowest refusal that holds. The refusal BUSY applies if the group is in a running mesh.
 pub fn sweeps_are_refused_by_lowest()
     ensures { SweepIsRefusedByLowest }
 {}

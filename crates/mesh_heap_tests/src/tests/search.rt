@@ -1,4 +1,5 @@
-//! Tests of the search for pairs: worked examples, and searches by workers compared with searches on one thread.
+//! Tests of the search for pairs: worked examples, and searches on several threads compared with searches on one
+//! thread.
 
 mod indexes;
 mod numbers;

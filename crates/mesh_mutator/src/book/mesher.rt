@@ -55,7 +55,7 @@ impl Book {
         self.heap.step(class)
     }
 
-    /// Cancels the mesh of a class before its first remap, and returns the number of unprotect steps to come. If this
+    /// Cancels the mesh of a class before its first remap, and returns the number of unprotect steps left. If this
     /// number is 0, the mesh is over. A further cancel returns the number of unprotect steps left, and changes nothing.
     ///
     /// The error is NO_MESH if no mesh of the class runs, and TOO_LATE if a page was already remapped.
@@ -79,7 +79,7 @@ impl Book {
 
     /// Frees the pages of an empty group, and returns the number of freed physical pages.
     ///
-    /// The error is the first of NO_GROUP, BUSY (the group is in a mesh) and NOT_EMPTY that applies.
+    /// The error is the first that applies, in this order: NO_GROUP, BUSY (the group is in a mesh), NOT_EMPTY.
     pub fn sweep(&mut self, group: u32) -> Result<u32, Refusal>
         ensures { IsAnswered KeepsBook self.old self.new (sweep (table_of_book self.old) group) result
             (IsSwept self.old.heap self.new.heap group) }

@@ -18,8 +18,8 @@ impl PageHeap {
     /// Removes the empty group `n`, unmaps its virtual pages and frees its physical pages. Returns the number of freed
     /// physical pages.
     ///
-    /// The error is the first of NO_GROUP, BUSY (the group is in a mesh) and NOT_EMPTY that applies. After an error,
-    /// nothing has changed.
+    /// The error is the first that applies, in this order: NO_GROUP, BUSY (the group is in a mesh), NOT_EMPTY. After an
+    /// error, nothing has changed.
     pub fn sweep(&mut self, n: u32) -> Result<u32, Refusal>
         ensures swept { IfOk result (HasGone self.old self.new n) }
         ensures refused { IfErr result

@@ -48,8 +48,8 @@ impl Placement {
     /// Meshes the group `source` into the group `destination`. The members and objects of `source` become members and
     /// objects of `destination`, and the pages of `source` become free. No object changes its slot or its address.
     ///
-    /// The error is the first of NO_GROUP, SAME, CLASS, OVERLAP and MEMBERS that applies. After an error, nothing has
-    /// changed.
+    /// The error is the first that applies, in this order: NO_GROUP, SAME, CLASS, OVERLAP, MEMBERS. After an error,
+    /// nothing has changed.
     pub fn mesh(&mut self, source: u32, destination: u32) -> Result<Meshed, Refusal>
         ensures meshed { IfOk result (λ done. IsMeshed self.old self.new source destination done.pages done.bytes) }
         ensures refused { IfErr result (λ refusal.

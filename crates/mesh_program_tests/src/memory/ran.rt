@@ -20,13 +20,13 @@ pub struct Ran {
 }
 
 impl Ran {
-    /// The outputs of a run with this status, from its devices.
+    /// The outputs of a run that ended with this status, taken from the run's devices.
     pub fn of<I: Source + Drop>(status: u8, devices: InMemory<I>) -> Ran {
         let (_, output, errors) = devices.into_parts();
         Ran::of_outputs(status, output, errors)
     }
 
-    /// The outputs of a run with this status, from its output and its errors.
+    /// The outputs of a run that ended with this status, given what the run wrote.
     pub fn of_outputs(status: u8, output: Output<Vec<u8>>, errors: Output<Vec<u8>>) -> Ran {
         Ran {
             status,

@@ -1,4 +1,4 @@
-//! Tables of test cases that are written as one text, and texts of many bytes.
+//! Tables of test cases, each table written as one text, and texts of many bytes.
 
 use crate::memory::files::FAULTS;
 use std::alloc::{AllocError, Global};
@@ -9,7 +9,7 @@ use std::alloc::{AllocError, Global};
 /// their number.
 pub const ROW_END: char = '#';
 
-/// Returns the first three fields of a row of such a table. A missing field is empty.
+/// Returns the first three fields of a row of a table. A missing field is empty.
 pub fn fields(row: &str) -> (&str, &str, &str) {
     let mut fields = row.split('|');
     (

@@ -31,7 +31,7 @@ no byte|history 1\n0 new 3 0 7 -> refused 1 ZERO\n|legal 1 entries\n#\
 a refusal that an allocator may have|history 1\n0 new 3 1 7 -> refused 3 NO_PAGES\n0 new 3 1 7 -> refused 4 NO_ADDRESSES\n0 new 3 1 7 -> refused 2 TOO_LARGE\n|legal 3 entries\n#\
 the greatest object|history 1\n0 new 0 140737488355328 7 -> object 4294967295 at ffffffffffff\n0 put 0 140737488355327 ff -> done\n0 get 0 140737488355326 2 -> bytes 00ff\n|legal 3 entries\n";
 
-/// Histories that the reference memory rejects, in the form of the rows of `LEGAL`.
+/// Histories that the reference memory rejects, in rows like those of `LEGAL`.
 static ILLEGAL: &str = "\
 the new byte and then the old one|history 2\n0 1 2 new 3 4 7 -> object 9 at 1000\n0 3 9 put 3 0 68 -> done\n1 4 5 get 3 0 1 -> bytes 68\n1 6 7 get 3 0 1 -> bytes 00\n|line 5: no order explains bytes 00; possible: bytes 68\n#\
 a range that is live|history 2\n0 1 2 new 3 4 7 -> object 9 at 1000\n1 2 3 new 4 4 7 -> object 8 at 1003\n0 4 9 free 3 -> done\n|line 3: overlaps object 9, made at line 2\n#\
@@ -54,7 +54,8 @@ no byte, and an object|history 1\n0 new 3 0 7 -> object 9 at 1000\n|line 2: answ
 a refusal that no new has|history 1\n0 new 3 1 7 -> refused 5 EMPTY\n|line 2: answer differs: refused 5 EMPTY, wanted object\n#\
 a new that is done|history 1\n0 new 3 1 7 -> done\n|line 2: answer differs: done, wanted object\n";
 
-/// Texts that are no histories, in the form of the rows of `LEGAL`. The verdict names the line of the text's fault.
+/// Texts that are no histories, in rows like those of `LEGAL`. The verdict names the line in which the text has its
+/// fault.
 static FAULTS: &str = "\
 an empty file||line 1: CUT\n#\
 another head|history 3\n|line 1: NUMBER\n#\
@@ -105,7 +106,7 @@ fn finds_what_the_plain_memory_takes(rt: HostRuntime) {
     check_verdicts(&rt, illegal(), 1);
 }
 
-/// Asserts the verdicts on the histories of a table, and the status of each run, if the source returns one byte per
+/// Asserts the verdicts on the histories of a table and the status of each run, with a source that returns one byte per
 /// call.
 fn check_slowly(rt: &(impl Abort + AllocGlobal), table: &str, status: u8) {
     for row in table.split(ROW_END) {

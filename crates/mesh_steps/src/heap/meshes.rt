@@ -40,7 +40,7 @@ impl Heap {
         self.pages.step(class)
     }
 
-    /// Cancels the mesh of a class before its first remap, and returns the number of unprotect steps to come. If this
+    /// Cancels the mesh of a class before its first remap, and returns the number of unprotect steps left. If this
     /// number is 0, the mesh has ended. A further cancel returns the number of unprotect steps left, and changes
     /// nothing. The call allocates nothing.
     ///
@@ -70,7 +70,7 @@ impl Heap {
     /// Frees the pages of an empty group, and returns the number of freed physical pages. The virtual pages of the
     /// group's members are unmapped, and never used again. The call allocates nothing.
     ///
-    /// The error is the first of NO_GROUP, BUSY (the group is in a mesh) and NOT_EMPTY that applies.
+    /// The error is the first that applies, in this order: NO_GROUP, BUSY (the group is in a mesh), NOT_EMPTY.
     pub fn sweep(&mut self, group: u32) -> Result<u32, Refusal>
         ensures { IsAnswered KeepsMeaning self.old self.new (sweep (table_of self.old) group) result
             (IsSwept self.old self.new group) }

@@ -1,4 +1,4 @@
-//! Tests that compare searches by several workers with searches on one thread.
+//! Tests that compare searches on several threads with searches on one thread.
 ghost use Rattle.std.specs.Prelude.{◌≤◌};
 
 use crate::tests::search::indexes::{SIZES, views_of};
@@ -15,7 +15,7 @@ use std::thread;
 use std::thread::Threads;
 use std::time::Duration;
 
-/// Whether a search by `workers` workers finds the same in each view as a search on one thread.
+/// Whether a search on `workers` threads has the same result for each view as a search on one thread.
 fn agrees<R: Threads + Wait + Sync + Abort + AllocGlobal>(
     rt: &R,
     views: &[ClassView],
@@ -69,8 +69,8 @@ fn workers_find_the_worked_pairs(rt: HostRuntime) {
     }
 }
 
-/// Asserts that one, three and sixteen workers find the same as a search on one thread, with the words of the worked
-/// examples.
+/// Asserts that searches on one, three and sixteen threads have the same result as a search on the calling thread, with
+/// the words of the worked examples.
 fn check_agreement<R: Threads + Wait + Sync + Abort + AllocGlobal>(
     rt: &R,
     views: &[ClassView],
@@ -134,7 +134,8 @@ fn workers_find_what_one_thread_finds(rt: HostRuntime) {
     assert!(&rt; most > 64, "no list of more than {most} candidates");
 }
 
-/// Asserts that workers find the same in random views as a search on one thread, and returns the number of candidates.
+/// Asserts that searches of random views on several threads have the same result as a search on one thread. Returns the
+/// number of candidates.
 fn check_list<R: Threads + Wait + Sync + Abort + AllocGlobal>(
     rt: &R,
     random: &mut Xoshiro256PlusPlus,
@@ -148,7 +149,7 @@ fn check_list<R: Threads + Wait + Sync + Abort + AllocGlobal>(
     own[0].len()
 }
 
-/// Asserts that any number of workers from 1 to 16 finds the same as a search on one thread.
+/// Asserts that searches on 1 to 16 threads have the same result as a search on the calling thread.
 fn check_workers<R: Threads + Wait + Sync + Abort + AllocGlobal>(
     rt: &R,
     views: &[ClassView],

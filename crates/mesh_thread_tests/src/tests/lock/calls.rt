@@ -100,7 +100,7 @@ pub(crate) fn reply_of(rt: &impl Abort, answer: Answer) -> Reply {
     }
 }
 
-/// Returns bytes in the type that commands and replies contain. Asserts that there are at most 32.
+/// Returns bytes in the type of the bytes of commands and replies. Asserts that there are at most 32.
 fn bytes_of(rt: &impl Abort, bytes: &[u8]) -> ArrayVec<u8, MAX_BYTES>
     ensures { result.items ≡ bytes.now }
 {
