@@ -1,5 +1,5 @@
 #!/usr/bin/env python3
-"""Checks the pages and the comments: links, names of files and crates, and the length of lines.
+"""Checks the pages and the comments: links, names of files and crates, quoted programs, and the length of lines.
 
     tools/test/pages.py
 
@@ -8,6 +8,7 @@ A fault is
 - a link to a file of the repository that leads to no file, or whose `#heading` is no heading of that file;
 - a file that a page names in backticks and that doesn't exist; or a name in backticks that begins with mesh_ or model_
   and is neither a crate nor a word of the code;
+- a quoted program (a block marked rust) whose lines are in no source file;
 - a line of more than 120 characters: of a page, tables, code and images aside; of a comment; or of a contract.
 
 Each fault is a line of the output, with its file and line, and the last line counts them. The status is 1 if there is
@@ -23,6 +24,7 @@ CRATES = TOP / "crates"
 LINK = re.compile(r"\[[^\]]*\]\(([^)\s]+)\)")
 CODE = re.compile(r"`([^`]+)`")
 NAME = re.compile(r"(?:mesh|model)_\w+")
+RUST = re.compile(r"(?ms)^```rust\n(.*?)^```")
 # A path in backticks begins with one of these, or with a crate's name.
 FOLDERS = {"crates", "docs", "tools", "jobs", "histories", "examples", "src", "specs", "proofs", "must-fail", "mutants"}
 
@@ -92,6 +94,22 @@ def page_faults(page, words):
                     yield number, f"no crate and no word {name}"
 
 
+def quote_faults(page):
+    """The quoted programs of a page that are in no source file, each with its first line's number."""
+    text = page.read_text()
+    for block in RUST.finditer(text):
+        lines = [line for line in block[1].splitlines() if line.strip()]
+        if not any(has_lines(path, lines) for path in sources(".rt")):
+            yield text.count("\n", 0, block.start()) + 1, "a quoted program that is in no source file"
+
+
+def has_lines(path, quoted):
+    """Whether a file has these lines one after another, empty lines and inner attributes aside."""
+    lines = [line for line in path.read_text().splitlines() if line.strip() and not line.startswith("#![")]
+    starts = (i for i, line in enumerate(lines) if line == quoted[0])
+    return any(lines[i:i + len(quoted)] == quoted for i in starts)
+
+
 def source_faults(path):
     """The lines of a source file's comments and contracts that are too long."""
     starts = ("//", "ensures", "requires") if path.suffix == ".rt" else ("-- ",)
@@ -105,6 +123,7 @@ def main():
     words = set().union(*(NAME.findall(path.read_text()) for path in code))
     pages = [*TOP.glob("*.md"), *TOP.glob("docs/*.md"), *CRATES.glob("*/*.md")]
     faults = [(page, *fault) for page in pages for fault in page_faults(page, words)]
+    faults += [(page, *fault) for page in pages for fault in quote_faults(page)]
     faults += [(path, *fault) for path in code for fault in source_faults(path)]
     for path, number, fault in faults:
         print(f"{path.relative_to(TOP)}:{number}: {fault}")
