@@ -1,4 +1,4 @@
-//! `Figures`: the data gathered from a sample after each call.
+//! `Figures`: the figures of a run, gathered from one sample after each call.
 ghost use Rattle.std.specs.Prelude.{◌≡◌, ◌<◌, ◌≤◌, ◌^◌, ◌↔◌, ◌∷◌, [], ◌++◌, List, IfOk, IsTrue};
 ghost use Rattle.mesh_figures.specs.declared.samples.Sample.{Sample};
 ghost use Rattle.mesh_figures.specs.declared.samples.Window.{Window};
@@ -34,7 +34,7 @@ impl Model for Figures {
 }
 
 impl Figures {
-    /// Returns figures without calls.
+    /// Returns the figures of no calls. Later, only calls in `window` are measured.
     pub fn new(window: Window) -> Figures
         ensures { IsOf result window [] }
     {
@@ -45,14 +45,14 @@ impl Figures {
         }
     }
 
-    /// Whether 2^32 - 1 calls were counted. `look` must not be called then.
+    /// Whether 2^32 - 1 calls have been counted. In that case `look` must not be called.
     pub fn is_full(&self) -> bool
         ensures { IsTrue result ↔ 4294967295 ≤ self.now.calls }
     {
         self.calls == u32::MAX
     }
 
-    /// Adds the sample of both heaps after the next call. Only calls in the window are measured.
+    /// Counts the next call, and adds its sample if the call is in the window.
     pub fn look(&mut self, sample: &Sample)
         requires room { self.old.calls < 4294967295 }
         requires without { AreFew sample.now.without }
@@ -68,7 +68,8 @@ impl Figures {
         }
     }
 
-    /// Returns the text of the table of the figures. The only error is an allocation failure.
+    /// Returns the table of the figures as text, with these counts of the whole run. The only error is an allocation
+    /// failure.
     pub fn text(&self, alloc: Global, counts: &Counts) -> Result<Vec<u8>, AllocError>
         ensures { (window : Window) (samples : List Sample) → IsOf self.now window samples
             → IfOk result (λ text. text.items ≡ figures_text window samples counts.now) }

@@ -12,7 +12,7 @@ pub struct Level {
     pub sum: u64,
 }
 
-/// The peak and the sum of the total pages of some samples, and for each class the sum of its pages.
+/// The peak and the sum of the total pages over some samples, and for each class the sum of the class's pages.
 #[derive(Clone, Copy, Debug)]
 pub struct Column {
     pub total: Level,
@@ -20,7 +20,7 @@ pub struct Column {
 }
 
 impl Level {
-    /// Returns the level of an empty sequence.
+    /// Returns the peak and the sum of an empty sequence.
     pub fn none() -> Level
         ensures level { IsLevel result [] }
         ensures sum { result.sum ≡ 0 }

@@ -20,7 +20,8 @@ use std::alloc::AllocError;
 /// The number of bytes in a tenth of a megabyte.
 const TENTH_OF_MEGABYTE: u64 = 100000;
 
-/// Adds the line with the number of calls and the counts of objects. Every error in this file is an allocation failure.
+/// Adds the line with the number of calls and the counts of objects. The only error of each function in this file is an
+/// allocation failure.
 #[tactic(auto, unfolding(crate::specs::Texts::calls_line))]
 pub fn add_calls(text: &mut Vec<u8>, calls: u32, counts: &Counts) -> Result<(), AllocError>
     ensures { OnOk result (text.new.items ≡ text.old.items ++ calls_line calls counts.now) }
@@ -65,7 +66,8 @@ fn add_heading(text: &mut Vec<u8>) -> Result<(), AllocError>
     )
 }
 
-/// Adds a row: its name, pages, and live bytes in whole pages.
+/// Adds a row: its name, the pages without and with meshing, the share saved, the pages with perfect packing, and the
+/// live bytes in whole pages.
 #[tactic(auto, unfolding(crate::specs::Texts::row_line))]
 fn add_row(text: &mut Vec<u8>, name: &[u8], pages: &Pages, live: u64) -> Result<(), AllocError>
     requires without { pages.now.without < 2 ^ 53 }
@@ -81,7 +83,7 @@ fn add_row(text: &mut Vec<u8>, name: &[u8], pages: &Pages, live: u64) -> Result<
     add(text, b"\n")
 }
 
-/// Adds the line about the call after which meshing saves most, with a dash if no call was measured.
+/// Adds the line about the call after which meshing saves most. If no call was measured, the line has only a dash.
 #[tactic(auto, unfolding(crate::specs::Texts::most_saved_line))]
 pub fn add_most_saved(text: &mut Vec<u8>, most: &Option<Saving>) -> Result<(), AllocError>
     ensures { OnOk result (text.new.items ≡ text.old.items ++ most_saved_line most.now) }
@@ -92,7 +94,7 @@ pub fn add_most_saved(text: &mut Vec<u8>, most: &Option<Saving>) -> Result<(), A
     }
 }
 
-/// Adds the line about this call, after which meshing saves most.
+/// Adds the line about `best`, the call after which meshing saves most.
 #[tactic(auto, unfolding(crate::specs::Texts::most_saved_line))]
 fn add_best(text: &mut Vec<u8>, best: &Saving) -> Result<(), AllocError>
     ensures { OnOk result (text.new.items ≡ text.old.items ++ most_saved_line (Some best.now)) }
@@ -108,7 +110,7 @@ fn add_best(text: &mut Vec<u8>, best: &Saving) -> Result<(), AllocError>
     add(text, b"\n")
 }
 
-/// Adds the line with the counts of meshes, rounds and virtual pages.
+/// Adds the line with the counts of meshes, refused meshes, copied bytes (in megabytes), rounds and virtual pages.
 #[tactic(auto, unfolding(crate::specs::Texts::meshes_line))]
 pub fn add_meshes(text: &mut Vec<u8>, counts: &Counts) -> Result<(), AllocError>
     ensures { OnOk result (text.new.items ≡ text.old.items ++ meshes_line counts.now) }
@@ -138,7 +140,7 @@ pub fn add_classes(
     Ok(())
 }
 
-/// Adds the line of the class at place `k` of the class table, if this class ever held an object.
+/// Adds the line of the class at place `k` of the class table. Adds nothing if this class never held an object.
 fn add_if_used(
     text: &mut Vec<u8>,
     measured: &Measured,
@@ -181,7 +183,7 @@ fn add_class(
     add(text, b"\n")
 }
 
-/// Adds the pages of a class: without meshing, with it, and with perfect packing.
+/// Adds the pages of a class: without meshing, with meshing, and with perfect packing.
 #[tactic(auto, unfolding(crate::specs::Texts::class_pages))]
 fn add_class_pages(text: &mut Vec<u8>, pages: &Pages) -> Result<(), AllocError>
     ensures { OnOk result (text.new.items ≡ text.old.items ++ class_pages pages.now) }

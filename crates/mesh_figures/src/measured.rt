@@ -82,7 +82,7 @@ impl Measured {
         );
     }
 
-    /// Returns the peaks of the total pages.
+    /// Returns the peaks of the total pages, for both heaps and for perfect packing.
     pub fn peaks(&self) -> Pages
         ensures value { (first : ℕ) (samples : List Sample) → IsMeasured self.now first samples
             → result ≡ pages_by peak total samples }
@@ -95,7 +95,7 @@ impl Measured {
         }
     }
 
-    /// Returns the means of the total pages.
+    /// Returns the means of the total pages, for both heaps and for perfect packing.
     pub fn means(&self) -> Pages
         requires { IsInBounds self.now }
         ensures value { (first : ℕ) (samples : List Sample) → IsMeasured self.now first samples
@@ -109,7 +109,7 @@ impl Measured {
         }
     }
 
-    /// Returns the total pages after the last call.
+    /// Returns the total pages after the last call, for both heaps and for perfect packing.
     pub fn ends(&self) -> Pages
         requires { IsInBounds self.now }
         ensures value { (first : ℕ) (samples : List Sample) → IsMeasured self.now first samples
@@ -139,7 +139,7 @@ impl Measured {
         self.end.live_bytes.div_ceil(PAGE)
     }
 
-    /// Returns the mean pages of the class at place `k` of the class table.
+    /// Returns the mean pages of the class at place `k` of the class table, for both heaps and for perfect packing.
     pub fn class_means(&self, k: usize) -> Pages
         requires { k < 10 }
         ensures { (first : ℕ) (samples : List Sample) → IsMeasured self.now first samples
@@ -152,7 +152,7 @@ impl Measured {
         }
     }
 
-    /// Returns the pages, after the last call, of the class at place `k` of the class table.
+    /// Returns the pages that the class at place `k` of the class table has after the last call.
     pub fn class_ends(&self, k: usize) -> Pages
         requires { k < 10 }
         ensures { (first : ℕ) (samples : List Sample) → IsMeasured self.now first samples

@@ -1,4 +1,4 @@
-//! `Pages`: a figure for each of the two heaps and for perfect packing.
+//! `Pages`: one figure for each of the two heaps, and one for perfect packing.
 
 /// A number of pages in the heap that doesn't mesh, in the heap that meshes, and with perfect packing.
 #[derive(Clone, Copy, Debug)]

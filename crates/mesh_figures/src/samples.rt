@@ -3,7 +3,8 @@
 /// The number of size classes.
 pub const CLASSES: usize = 10;
 
-/// The usage of both heaps after a call. Pages are numbers of physical pages by class, in the order of the class table.
+/// The memory that both heaps use after a call. Each array has one number of physical pages per class, in the order of
+/// the class table.
 #[derive(Clone, Copy, Debug)]
 pub struct Sample {
     /// Pages of the heap that doesn't mesh.
@@ -30,11 +31,12 @@ pub struct Window {
 pub struct Counts {
     /// The greatest number of objects of up to 2,048 bytes that were live at once.
     pub most_objects: u32,
-    /// The number of larger objects that were made.
+    /// The number of objects of more than 2,048 bytes that were made.
     pub large: u32,
-    /// The greatest number of pages that live larger objects took at once. It may need more than 64 bits.
+    /// The greatest number of pages that live objects of more than 2,048 bytes took at once. The number may need more
+    /// than 64 bits.
     pub most_large_pages: u128,
-    /// The number of meshes.
+    /// The number of meshes that were made.
     pub meshes: u64,
     /// The number of meshes that were refused.
     pub refused: u64,
@@ -44,6 +46,6 @@ pub struct Counts {
     pub rounds: u32,
     /// The number of virtual pages used by the meshing heap.
     pub virtual_pages: u32,
-    /// Which classes ever held an object, in the order of the class table.
+    /// Whether each class ever held an object, in the order of the class table.
     pub used: [bool; CLASSES],
 }

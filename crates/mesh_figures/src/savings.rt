@@ -11,8 +11,7 @@ pub struct Saving {
     pub with: u32,
 }
 
-/// Returns whichever of `best` and `next` saves more, and `best` if both save the same. If `best` is `None`, returns
-/// `next`.
+/// Returns `next` if `best` is `None` or `next` saves more pages than `best`. Otherwise returns `best`.
 pub fn better(best: Option<Saving>, next: Saving) -> Option<Saving>
     ensures { (savings : List Saving) → IsMostSaved best savings → IsMostSaved result (savings ++ next ∷ []) }
 {
@@ -22,7 +21,7 @@ pub fn better(best: Option<Saving>, next: Saving) -> Option<Saving>
     }
 }
 
-/// Returns `next` if it saves more than `best`, and `best` otherwise.
+/// Returns `next` if it saves more pages than `best`, and `best` otherwise.
 fn greater(best: Saving, next: Saving) -> Saving
     ensures { (savings : List Saving) → IsMostSaved (Some best) savings
         → IsMostSaved (Some result) (savings ++ next ∷ []) }

@@ -6,7 +6,7 @@ use crate::rounding::divided;
 use itoa::Buffer;
 use std::alloc::{AllocError, Global};
 
-/// Adds a word. Every error in this file is an allocation failure.
+/// Adds a word. The only error of each function in this file is an allocation failure.
 pub fn add(text: &mut Vec<u8>, word: &[u8]) -> Result<(), AllocError>
     ensures { OnOk result (text.new.items ≡ text.old.items ++ word.now) }
 {
@@ -50,7 +50,7 @@ fn add_spaces(text: &mut Vec<u8>, count: usize) -> Result<(), AllocError>
     Ok(())
 }
 
-/// Adds a word, right-aligned in a field of this width.
+/// Adds a word, right-aligned in a field of `width` bytes. A longer word isn't cut.
 pub fn add_right(text: &mut Vec<u8>, width: usize, word: &[u8]) -> Result<(), AllocError>
     ensures { OnOk result (text.new.items ≡ text.old.items ++ right width word.now) }
 {
@@ -58,7 +58,7 @@ pub fn add_right(text: &mut Vec<u8>, width: usize, word: &[u8]) -> Result<(), Al
     add(text, word)
 }
 
-/// Adds a word, left-aligned in a field of this width.
+/// Adds a word, left-aligned in a field of `width` bytes. A longer word isn't cut.
 pub fn add_left(text: &mut Vec<u8>, width: usize, word: &[u8]) -> Result<(), AllocError>
     ensures { OnOk result (text.new.items ≡ text.old.items ++ left width word.now) }
 {
@@ -90,7 +90,7 @@ pub fn add_number_left(text: &mut Vec<u8>, width: usize, number: u64) -> Result<
     add_left(text, width, digits.format(number).as_bytes())
 }
 
-/// Adds a number of tenths, as a decimal number with one digit after the point.
+/// Adds `tenths` tenths as a decimal number with one digit after the point.
 #[tactic(auto, unfolding(crate::specs::Texts::tenths_text))]
 pub fn add_tenths(text: &mut Vec<u8>, tenths: u64) -> Result<(), AllocError>
     ensures { OnOk result (text.new.items ≡ text.old.items ++ tenths_text tenths) }
@@ -100,7 +100,7 @@ pub fn add_tenths(text: &mut Vec<u8>, tenths: u64) -> Result<(), AllocError>
     add_decimal(text, tenths % 10)
 }
 
-/// Adds a minus sign if `with` is above `without`.
+/// Adds a minus sign if `with` is above `without`, and nothing otherwise.
 fn add_sign(text: &mut Vec<u8>, without: u64, with: u64) -> Result<(), AllocError>
     ensures { OnOk result (text.new.items ≡ text.old.items ++ sign_text without with) }
 {
@@ -119,7 +119,8 @@ pub fn add_difference(text: &mut Vec<u8>, without: u64, with: u64) -> Result<(),
     add_decimal(text, without.abs_diff(with))
 }
 
-/// Adds the share of pages that meshing saves, in percent.
+/// Adds the share of pages that meshing saves, in percent, or a dash if `without` is 0. The share is negative if `with`
+/// is above `without`.
 #[tactic(auto, unfolding(crate::specs::Texts::saved_text))]
 pub fn add_saved(text: &mut Vec<u8>, without: u64, with: u64) -> Result<(), AllocError>
     requires without { without < 2 ^ 53 }

@@ -1,4 +1,4 @@
-//! `Begun`, a source whose beginning can be inspected before it is read.
+//! `Begun`, a source whose first bytes can be inspected before they are read.
 ghost use Rattle.std.specs.Prelude.{◌≡◌, [], IfErr, IfOk, OnOk, false, is_err, length, true};
 ghost use Rattle.std.specs.Io.KnownBytes.{Keeps, prepend_known};
 ghost use Rattle.mesh_devices.specs.Devices.{is_read_fault};
@@ -11,7 +11,7 @@ use mesh_devices::{DeviceFault, ReplayError, Source, read_some};
 /// The number of bytes that are inspected: the length of the line `history 2` with its line end.
 const LOOKED_AT: usize = 10;
 
-/// A source, and the bytes that were inspected but not read yet.
+/// A source, with the bytes that have been inspected but not yet read.
 #[derive(Drop)]
 pub struct Begun<I: Drop> {
     inner: I,
@@ -19,7 +19,7 @@ pub struct Begun<I: Drop> {
 }
 
 impl<I: Source + Drop> Begun<I> {
-    /// Returns a source of which no byte was inspected yet.
+    /// Returns a source of which no byte has been inspected.
     pub fn new(inner: I) -> Begun<I>
         ensures inner { result.inner ≡ inner }
         ensures unread { result.begun.items ≡ [] }
@@ -30,8 +30,8 @@ impl<I: Source + Drop> Begun<I> {
         }
     }
 
-    /// Whether the text begins with `bytes`. If `bytes` has fewer than ten bytes, the result may be `false` although
-    /// the text begins with them. The call consumes nothing of the text.
+    /// Whether the text begins with `bytes`, which should have ten bytes. If `bytes` has another length, the result may
+    /// be `false` although the text begins with `bytes`. The call consumes nothing of the text.
     ///
     /// The only error is `Read`: the source failed.
     pub fn begins_with(&mut self, bytes: &[u8]) -> Result<bool, ReplayError>

@@ -1,4 +1,4 @@
-//! The text of the reason why no order explains a history.
+//! The text of the reason why no order of effects explains a history.
 ghost use Rattle.std.specs.Prelude.{◌≡◌, ◌++◌, OnOk};
 ghost use Rattle.std.specs.List.{flat_map};
 ghost use Rattle.mesh_judge.specs.FlawTexts.{flaw_text, later_text, least_text, load_text, loads_text, possible_text, unexplained_text};
@@ -11,7 +11,8 @@ use mesh_spelling::{add_bytes, add_decimal};
 use model_words::{MAX_BYTES, Refusal};
 use std::alloc::AllocError;
 
-/// Appends the reason why no order explains a history. Every error in this file is an allocation failure.
+/// Appends the reason why no order of effects explains a history. The only error of each function in this file is an
+/// allocation failure.
 pub(crate) fn add_flaw(text: &mut Vec<u8>, flaw: &Flaw) -> Result<(), AllocError>
     ensures { OnOk result (text.new.items ≡ text.old.items ++ flaw_text flaw.now) }
 {
@@ -38,7 +39,7 @@ pub(crate) fn add_flaw(text: &mut Vec<u8>, flaw: &Flaw) -> Result<(), AllocError
     }
 }
 
-/// Appends an answer that no order explains, and the answers that were possible.
+/// Appends an answer that no order of effects explains, and the answers that were possible.
 fn add_unexplained(text: &mut Vec<u8>, unexplained: &Unexplained) -> Result<(), AllocError>
     ensures { OnOk result
         (text.new.items ≡ text.old.items
@@ -51,7 +52,7 @@ fn add_unexplained(text: &mut Vec<u8>, unexplained: &Unexplained) -> Result<(), 
     }
 }
 
-/// Appends the text about an answer that no order explains, up to and including `possible: `.
+/// Appends the text about an answer that no order of effects explains, up to and including `possible: `.
 fn add_answer(text: &mut Vec<u8>, answer: &RecordedReply) -> Result<(), AllocError>
     ensures { OnOk result (text.new.items ≡ text.old.items ++ unexplained_text answer.now) }
 {
@@ -60,7 +61,7 @@ fn add_answer(text: &mut Vec<u8>, answer: &RecordedReply) -> Result<(), AllocErr
     text.extend_from_slice(b"; possible: ")
 }
 
-/// Appends the loads that are possible.
+/// Appends the bytes that the load could return, one item for each possibility, and ` | ..` if there are more.
 fn add_loads(text: &mut Vec<u8>, loads: &Loads) -> Result<(), AllocError>
     ensures { OnOk result (text.new.items ≡ text.old.items ++ loads_text loads.now) }
 {
@@ -71,7 +72,7 @@ fn add_loads(text: &mut Vec<u8>, loads: &Loads) -> Result<(), AllocError>
     Ok(())
 }
 
-/// Appends loads, separated by bars.
+/// Appends each item of `loads`, the bytes that a load could return. Items are separated by bars.
 fn add_least(text: &mut Vec<u8>, loads: &[ArrayVec<u8, MAX_BYTES>]) -> Result<(), AllocError>
     ensures { OnOk result (text.new.items ≡ text.old.items ++ least_text loads.now) }
 {
@@ -82,7 +83,7 @@ fn add_least(text: &mut Vec<u8>, loads: &[ArrayVec<u8, MAX_BYTES>]) -> Result<()
     add_later(text, later)
 }
 
-/// Appends loads, with a bar before each.
+/// Appends each item of `later`, the bytes that a load could return, with a bar before each.
 fn add_later(text: &mut Vec<u8>, later: &[ArrayVec<u8, MAX_BYTES>]) -> Result<(), AllocError>
     ensures { OnOk result (text.new.items ≡ text.old.items ++ flat_map later_text later.now) }
 {
@@ -92,7 +93,7 @@ fn add_later(text: &mut Vec<u8>, later: &[ArrayVec<u8, MAX_BYTES>]) -> Result<()
     Ok(())
 }
 
-/// Appends a bar and a load.
+/// Appends a bar, and the bytes that a load could return.
 fn add_later_load(text: &mut Vec<u8>, load: &ArrayVec<u8, MAX_BYTES>) -> Result<(), AllocError>
     ensures { OnOk result (text.new.items ≡ text.old.items ++ later_text load.now) }
 {
@@ -100,7 +101,7 @@ fn add_later_load(text: &mut Vec<u8>, load: &ArrayVec<u8, MAX_BYTES>) -> Result<
     add_load(text, load)
 }
 
-/// Appends a load.
+/// Appends the bytes that a load could return.
 fn add_load(text: &mut Vec<u8>, load: &ArrayVec<u8, MAX_BYTES>) -> Result<(), AllocError>
     ensures { OnOk result (text.new.items ≡ text.old.items ++ load_text load.now) }
 {

@@ -22,8 +22,8 @@ pub enum Judgement {
     Overlapping(CallVerdict),
 }
 
-/// Judges the recorded history in the input. The kind of the history is determined by its first line. `most` limits the
-/// number of configurations that an object may have at the end of a call (calls that overlap only).
+/// Judges the recorded history in the input. The first line determines the kind of the history. If the calls overlap,
+/// `most` limits the number of configurations that an object may have at the end of a call.
 ///
 /// The input is read to its end, or until there is a verdict. The error is `Text` or `Order` if a line has a fault,
 /// `Read` if and only if the input failed, and `Memory` if an allocation failed.

@@ -1,8 +1,8 @@
 //! The judgement of a recorded history, of calls in the order of their effects or of calls that overlap.
 //!
-//! A `Begun` source can report how its text begins without consuming the text. `judge` tests the first line that way.
-//! It passes the text to the judge of its kind: `mesh_linearizability` if the text begins with the line `history 2`,
-//! and `mesh_check` otherwise.
+//! A `Begun` source reports whether its text begins with certain bytes, and consumes nothing of the text. `judge` tests
+//! in this way whether the first line is `history 2`. If so, it passes the text to the judge `mesh_linearizability`,
+//! and otherwise to `mesh_check`.
 #![tactic(auto)]
 
 mod begun;

@@ -12,7 +12,8 @@ use std::alloc::{AllocError, Global};
 /// Returns the calls of a text of `history 2` in an order of effects that explains them, as a text of `history 1`.
 /// `most` limits the number of configurations that an object may have at the end of a call.
 ///
-/// `None` if the calls aren't found to be linearizable, or no order was found. The only error is an allocation failure.
+/// Returns `None` if the calls aren't found to be linearizable, if there are 2^32 - 1 calls or more, or if no order was
+/// found. The only error is an allocation failure.
 pub fn ordered_history(
     alloc: Global,
     text: &[u8],
@@ -36,7 +37,8 @@ pub fn ordered_history(
     Ok(Some(history))
 }
 
-/// Whether the calls of a text are found to be linearizable. The only error is an allocation failure.
+/// Whether the calls of a text are found to be linearizable. Returns `false` also if the text has a fault, or if the
+/// judge doesn't decide within the limit `most`. The only error is an allocation failure.
 fn is_linearizable(alloc: Global, text: &[u8], most: usize) -> Result<bool, AllocError> {
     let mut input = Input::new(text);
     match check_calls(alloc, &mut input, most) {
@@ -60,7 +62,8 @@ fn calls_in(alloc: Global, text: &[u8]) -> Result<Option<Vec<TimedCall>>, AllocE
     }
 }
 
-/// Reads all calls of the input. No call has been read from it before. The errors are those of `CallInput::next`.
+/// Reads all calls of the input. No call may have been read with `history` before. The errors are those of
+/// `CallInput::next`, and `Memory` if an allocation for the list failed.
 fn read_calls<I: Source>(
     alloc: Global,
     history: &mut CallInput,

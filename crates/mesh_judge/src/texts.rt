@@ -10,8 +10,8 @@ use mesh_linearizability::CallVerdict;
 use mesh_spelling::add_decimal;
 use std::alloc::{AllocError, Global};
 
-/// Returns the line of a judgement, with its line end. `most` is the limit on configurations that the judgement was
-/// made with. The only error is an allocation failure.
+/// Returns the line of a judgement, with its line end. `most` is the limit on configurations that was passed to
+/// `judge`. The only error is an allocation failure.
 pub fn judgement_line(
     alloc: Global,
     judgement: &Judgement,
@@ -55,7 +55,8 @@ fn add_verdict(text: &mut Vec<u8>, verdict: &CallVerdict, most: u32) -> Result<(
     }
 }
 
-/// Appends the reason why the judge stopped without a decision.
+/// Appends the reason why the judge stopped without a decision: too many pending accesses to one object, or more than
+/// `most` configurations.
 fn add_undecided(text: &mut Vec<u8>, fault: JudgeFault, most: u32) -> Result<(), AllocError>
     ensures { OnOk result (text.new.items ≡ text.old.items ++ undecided_text most fault) }
 {

@@ -1,4 +1,4 @@
-//! Whether two frames give the same picture.
+//! Whether two frames look alike.
 ghost use Rattle.mesh_running.specs.StepOrders.{IsStepOrder};
 
 use crate::frame::{Counts, Frame, RunningMesh};
@@ -6,7 +6,7 @@ use crate::numbers::narrow;
 use mesh_running::{MAX_MEMBERS, Progress, StepOrder};
 use std::alloc::{AllocError, Global};
 
-/// A copy of a frame.
+/// Returns a copy of a frame. The only error is an allocation failure.
 pub fn copied(frame: &Frame) -> Result<Frame, AllocError> {
     Ok(Frame {
         members: frame.members.clone()?,
@@ -45,8 +45,8 @@ pub fn are_alike(one: &Frame, other: &Frame) -> bool {
         && have_alike_meshes(one, other)
 }
 
-/// Whether two frames have the same number of meshes, and each mesh of one looks like the mesh at its place in the
-/// other.
+/// Whether two frames have the same number of meshes, and each mesh of `one` looks like the mesh of `other` with the
+/// same index.
 fn have_alike_meshes(one: &Frame, other: &Frame) -> bool {
     if one.meshes.len() != other.meshes.len() {
         return false;
@@ -59,7 +59,7 @@ fn have_alike_meshes(one: &Frame, other: &Frame) -> bool {
     true
 }
 
-/// Whether two meshes, each in its frame, have the same groups and the same number of copied objects, and both or
+/// Whether two meshes, each in its own frame, have the same groups and the same number of copied objects, and both or
 /// neither were cancelled.
 fn are_alike_meshes(one: &Frame, mine: &RunningMesh, other: &Frame, its: &RunningMesh) -> bool {
     mine.source == its.source
@@ -76,8 +76,8 @@ fn is_unwinding(mesh: &RunningMesh) -> bool {
     }
 }
 
-/// Returns the step order of a mesh. If its source has more members than a group can have, the order for the maximum is
-/// returned.
+/// Returns the step order of a mesh. If the mesh's source has more members than a group can have, returns the order for
+/// the greatest number of members.
 pub fn order_of(frame: &Frame, mesh: &RunningMesh) -> StepOrder
     ensures { IsStepOrder result }
 {

@@ -17,7 +17,7 @@ pub(crate) fn draw_arrows(text: &mut Text, scene: &Scene) {
     }
 }
 
-/// Returns the horizontal middle of a page that begins at `left`.
+/// Returns the horizontal middle of a page. `left` is the page's left side, from the card's left side.
 fn middle(scene: &Scene, left: u32) -> u32 {
     scene.across(left).saturating_add(scene.layout.page / 2)
 }
@@ -28,7 +28,7 @@ fn physical_middle(scene: &Scene, page: u32) -> u32 {
 }
 
 /// Draws the mapping of a virtual page as an arrow that starts at `from`. If the page was mapped to another physical
-/// page before, draws a curve to that page too.
+/// page in the frame before, also draws a curve to that physical page.
 fn draw_lead(text: &mut Text, scene: &Scene, lead: &Mapping, from: u32) {
     let was = earlier_target(scene, lead);
     if let Some(page) = was {
@@ -52,8 +52,8 @@ fn draw_lead(text: &mut Text, scene: &Scene, lead: &Mapping, from: u32) {
     draw_head(text, scene, look, to);
 }
 
-/// Returns the physical page that a virtual page was mapped to in the frame before. `None` if it was mapped to the same
-/// page, if it was not mapped, or if there is no frame before.
+/// Returns the physical page that a virtual page was mapped to in the frame before. Returns `None` if the physical page
+/// is the same now, if the virtual page wasn't mapped, or if there is no frame before.
 fn earlier_target(scene: &Scene, lead: &Mapping) -> Option<u32> {
     let was = lead_of(scene.before?, lead.virtual_page)?;
     if was.physical_page == lead.physical_page {
@@ -63,8 +63,8 @@ fn earlier_target(scene: &Scene, lead: &Mapping) -> Option<u32> {
     }
 }
 
-/// Returns the colour of an arrow: the colour of a change if the mapping has changed, and otherwise that of the page's
-/// group.
+/// Returns the colour of an arrow: the colour of changes if the mapping has changed, and otherwise the colour of the
+/// page's group.
 fn lead_look(frame: &Frame, lead: &Mapping, changed: bool) -> Look {
     if changed {
         Look::of("chg")
@@ -73,7 +73,7 @@ fn lead_look(frame: &Frame, lead: &Mapping, changed: bool) -> Look {
     }
 }
 
-/// The style rule of an arrow's line: dashed if stores are blocked.
+/// Returns the style rule of an arrow's line: dashed if the page is read-only, and bold if the mapping has changed.
 fn line_rule(lead: &Mapping, changed: bool) -> &'static str {
     match (lead.read_only, changed) {
         (false, false) => "",
@@ -99,7 +99,7 @@ fn draw_curve(text: &mut Text, scene: &Scene, look: Look, from: u32, to: u32) {
     );
 }
 
-/// Draws the head of an arrow to a place.
+/// Draws the head of an arrow that ends at `to`.
 fn draw_head(text: &mut Text, scene: &Scene, look: Look, to: u32) {
     let low = scene.bottom().saturating_sub(40);
     let high = low.saturating_sub(65);

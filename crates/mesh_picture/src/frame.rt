@@ -3,7 +3,7 @@ use mesh_class::Class;
 pub use mesh_pagemap::Mapping;
 use mesh_running::Progress;
 
-/// A member of a group: a span, on virtual pages of its own.
+/// A member of a group: one virtual span of the group.
 #[derive(Clone, Copy, PartialEq, Eq)]
 pub struct Member {
     /// The group's number.
@@ -17,7 +17,7 @@ pub struct Member {
 /// A live object.
 #[derive(Clone, Copy, PartialEq, Eq)]
 pub struct Object {
-    /// The span of the object, by its first virtual page.
+    /// The first virtual page of the object's span.
     pub member: u32,
     /// The object's slot.
     pub slot: u32,
@@ -32,18 +32,18 @@ pub struct Object {
 pub struct Home {
     /// The group's number.
     pub group: u32,
-    /// The place among the group's pages.
+    /// The page's index among the group's pages.
     pub place: u32,
     /// The physical page.
     pub page: u32,
-    /// Whether the page is still taken: a mesh releases its source's pages one by one.
+    /// Whether the page is still taken. A mesh releases the pages of its source one by one.
     pub taken: bool,
 }
 
 /// A running mesh.
 #[derive(Clone, Copy, PartialEq, Eq)]
 pub struct RunningMesh {
-    /// The class of its two groups.
+    /// The class of the mesh's two groups.
     pub class: Class,
     /// The number of the source.
     pub source: u32,
@@ -56,9 +56,9 @@ pub struct RunningMesh {
 /// The page counts of a heap.
 #[derive(Clone, Copy, Default, PartialEq, Eq)]
 pub struct Counts {
-    /// The virtual pages that are mapped.
+    /// The number of mapped virtual pages.
     pub mapped: u32,
-    /// The physical pages that are taken.
+    /// The number of taken physical pages.
     pub taken: u32,
     /// The number of mapped virtual pages less the number of taken physical pages.
     pub saved: u32,
@@ -66,13 +66,13 @@ pub struct Counts {
 
 /// The content of a picture of a heap.
 pub struct Frame {
-    /// The members of all groups: groups ascending by number, members in their order.
+    /// The members of all groups, with groups ascending by number. Each group's members are in the group's order.
     pub members: Vec<Member>,
-    /// The mappings of their pages: members in that order, each with its pages in their order.
+    /// The mappings of the members' pages, in the order of `members`. Each member's pages are in ascending order.
     pub leads: Vec<Mapping>,
-    /// Their objects: members in that order, each with its objects ascending by slot.
+    /// The objects of the members, in the order of `members`. Each member's objects are ascending by slot.
     pub objects: Vec<Object>,
-    /// The physical pages of the groups: groups ascending by number, each with its pages in their order.
+    /// The physical pages of the groups, with groups ascending by number. Each group's pages are in the group's order.
     pub homes: Vec<Home>,
     /// The running meshes, ascending by class.
     pub meshes: Vec<RunningMesh>,

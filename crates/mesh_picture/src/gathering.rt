@@ -5,24 +5,24 @@ use crate::numbers::narrow;
 use crate::pills::{Tone, is_step, tone_of};
 use std::alloc::{AllocError, Global};
 
-/// The greatest number of captions above one frame. The lines between the first captions and the last one are only
-/// counted.
+/// The greatest number of captions above one frame. If there are more, captions before the last one are left out, and
+/// only their lines are counted.
 pub const MAX_CAPTIONS: usize = 12;
 
-/// The most letters of a line's words.
+/// The greatest number of bytes that are shown of a line's words.
 const MAX_WORDS: usize = 60;
 
-/// The most letters of an answer.
+/// The greatest number of bytes that are shown of an answer.
 const MAX_ANSWER: usize = 72;
 
-/// A line of a plan that was run.
+/// A line of a plan that has been run, with its answer.
 #[derive(Clone, Copy)]
 pub struct Line<'a> {
     /// The line's number, counted from 1.
     pub number: u32,
     /// The line's words. A long text is cut, and any byte that is not printable ASCII becomes a question mark.
     pub words: &'a [u8],
-    /// The line's answer, cut in the same way. Its first word determines its colour.
+    /// The line's answer. It is cut as the words are, and its first words determine its colour.
     pub answer: &'a [u8],
 }
 
@@ -33,18 +33,18 @@ pub struct Caption {
     pub from: u32,
     /// The last line's number.
     pub to: u32,
-    /// How many lines the caption stands for.
+    /// The number of lines that the caption represents.
     pub times: u32,
     /// The words.
     pub words: Vec<u8>,
-    /// The last answer.
+    /// The answer of the last line.
     pub answer: Vec<u8>,
     /// The kind of the answer.
     pub tone: Tone,
 }
 
 impl Caption {
-    /// Merges a later caption with the same words into this caption.
+    /// Merges a later caption of one line with the same words into this caption.
     fn repeat(&mut self, later: Caption) {
         self.to = later.to;
         self.times = self.times.saturating_add(1);
@@ -57,11 +57,11 @@ impl Caption {
 pub struct Gathering {
     /// The captions, in order.
     pub captions: Vec<Caption>,
-    /// How many lines are left out before the last caption.
+    /// The number of lines that are left out before the last caption.
     pub hidden: u32,
     /// The last frame that was shown, with the current state of its meshes and the current counts.
     pub last: Frame,
-    /// Whether a frame was shown already.
+    /// Whether a frame has been shown.
     pub begun: bool,
     alloc: Global,
 }
@@ -83,7 +83,8 @@ impl Gathering {
         }
     }
 
-    /// Adds a line with its answer.
+    /// Adds a line with its answer. If the line repeats the last caption, the line is merged into that caption. The
+    /// only error is an allocation failure.
     pub fn add(&mut self, line: &Line<'_>) -> Result<(), AllocError> {
         let caption = caption_of(self.alloc, line)?;
         if let Some(last) = self.captions.last_mut() {
@@ -95,8 +96,8 @@ impl Gathering {
         self.add_behind(caption)
     }
 
-    /// Appends a caption. If there are `MAX_CAPTIONS` captions already, the last of them is removed first, and its
-    /// lines are counted as hidden.
+    /// Appends a caption. If there are `MAX_CAPTIONS` captions already, first removes the last of them and counts its
+    /// lines as hidden. The only error is an allocation failure.
     fn add_behind(&mut self, caption: Caption) -> Result<(), AllocError> {
         if self.captions.len() >= MAX_CAPTIONS {
             if let Some(left_out) = self.captions.pop() {
@@ -106,8 +107,8 @@ impl Gathering {
         Ok(self.captions.push(caption)?)
     }
 
-    /// Whether a frame doesn't look like the last one that was shown. Before the first frame, whether a frame shows
-    /// anything.
+    /// Whether `frame` doesn't look like the last frame that was shown. If no frame has been shown, whether `frame`
+    /// shows anything.
     pub fn is_due(&self, frame: &Frame) -> bool {
         if self.begun {
             !are_alike(&self.last, frame)
@@ -116,14 +117,16 @@ impl Gathering {
         }
     }
 
-    /// Updates the meshes and the counts of the last frame to those of a frame that looks like it.
+    /// Updates the meshes and the counts of the last frame to those of `frame`, which looks like the last frame. The
+    /// only error is an allocation failure.
     pub fn keep_up(&mut self, frame: &Frame) -> Result<(), AllocError> {
         self.last.meshes = frame.meshes.clone()?;
         self.last.counts = frame.counts;
         Ok(())
     }
 
-    /// Records that a frame was shown, with the lines gathered until now above it.
+    /// Records that `frame` has been shown with the gathered lines above it, and discards these lines. The only error
+    /// is an allocation failure.
     pub fn shown(&mut self, frame: &Frame) -> Result<(), AllocError> {
         self.last = copied(frame)?;
         self.begun = true;
@@ -132,21 +135,22 @@ impl Gathering {
         Ok(())
     }
 
-    /// How many lines of text are above a frame.
+    /// Returns the number of lines of text above a frame.
     pub fn height(&self) -> u32 {
         narrow(self.captions.len()).saturating_add(self.hidden.min(1))
     }
 }
 
-/// Whether a line has the same words and the same answer as the line before it.
+/// Whether a caption repeats the caption before it: both have the same words, the same kind of answer and the same
+/// answer.
 fn repeats(earlier: &Caption, later: &Caption) -> bool {
     earlier.words.as_slice() == later.words.as_slice()
         && earlier.tone == later.tone
         && has_same_answer(earlier, later)
 }
 
-/// Whether two answers are the same. For steps, whose answers contain the number of steps left, only the first words
-/// are compared.
+/// Whether two captions have the same answer. If the later answer is that of a step, only the first words are compared,
+/// because a step's answer contains the number of steps left.
 fn has_same_answer(earlier: &Caption, later: &Caption) -> bool {
     if is_step(later.answer.as_slice()) {
         first_word(earlier.answer.as_slice()) == first_word(later.answer.as_slice())
@@ -155,7 +159,7 @@ fn has_same_answer(earlier: &Caption, later: &Caption) -> bool {
     }
 }
 
-/// The first word of an answer.
+/// Returns the first word of an answer.
 fn first_word(answer: &[u8]) -> &[u8] {
     match answer.iter().position(|b| *b == b' ') {
         Some(end) => &answer[..end.min(answer.len())],
@@ -163,7 +167,7 @@ fn first_word(answer: &[u8]) -> &[u8] {
     }
 }
 
-/// A caption of one line.
+/// Returns a caption of one line. The only error is an allocation failure.
 fn caption_of(alloc: Global, line: &Line<'_>) -> Result<Caption, AllocError> {
     Ok(Caption {
         from: line.number,
@@ -175,8 +179,8 @@ fn caption_of(alloc: Global, line: &Line<'_>) -> Result<Caption, AllocError> {
     })
 }
 
-/// The first `most` bytes of a text, with two dots if there are more. Any byte that is not printable ASCII becomes a
-/// question mark.
+/// Returns the first `most` bytes of a text, followed by two dots if the text is longer. Any byte that is not printable
+/// ASCII becomes a question mark. The only error is an allocation failure.
 pub fn cut(alloc: Global, words: &[u8], most: usize) -> Result<Vec<u8>, AllocError> {
     let mut all = Vec::new(alloc);
     for byte in words.iter().take(most) {

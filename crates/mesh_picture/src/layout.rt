@@ -1,4 +1,4 @@
-//! The position of everything. Lengths are in tenths of a pixel.
+//! The positions and sizes of all parts of a picture. Lengths are in tenths of a pixel.
 use crate::numbers::narrow;
 use crate::pills::{INDENT, LINE};
 use mesh_class::Class;
@@ -21,10 +21,10 @@ const SPAN_GAP: u32 = 160;
 /// The height of a page.
 pub const PAGE_HEIGHT: u32 = 480;
 
-/// The height for the names of spans above their pages, each with its class on the same line.
+/// The height of the line above the pages of spans, with each span's name and class.
 const HEADING: u32 = 300;
 
-/// The height for the names if pages are so narrow that each class has a line of its own.
+/// The height of the names above the pages of spans if pages are narrow, and each class is on a line of its own.
 const TALL_HEADING: u32 = 400;
 
 /// The height below a virtual page for its number and its read-only mark.
@@ -47,16 +47,16 @@ const LEAST_CARD: u32 = 6_400;
 /// The width of a card that is a map of occupancy.
 const MAP_CARD: u32 = 7_400;
 
-/// The most pages that are drawn one by one.
+/// The greatest number of pages that are drawn one by one.
 pub const MAX_PAGES: u32 = 40;
 
-/// The most groups of a map of occupancy.
+/// The greatest number of groups that a map of occupancy shows.
 pub const MAX_ROWS: u32 = 200;
 
 /// The distance from one group of a map to the next.
 pub const ROW: u32 = 140;
 
-/// The distance from one bar of a mesh to the next.
+/// The distance from the bar of one mesh to the bar of the next.
 pub const BAR: u32 = 180;
 
 /// A span that is drawn in some frame.
@@ -81,26 +81,26 @@ pub struct Extent {
     pub groups: u32,
 }
 
-/// The position of everything in a card.
+/// The positions and sizes of all parts of a card.
 #[derive(Drop)]
 pub struct Layout {
-    /// The spans, by their first pages.
+    /// The spans, ascending by first page.
     pub spans: Vec<Shown>,
-    /// How many physical pages are shown.
+    /// The number of physical pages that are shown.
     pub physical: u32,
-    /// Whether pages are drawn one by one. Otherwise a map of occupancy is drawn.
+    /// Whether pages are drawn one by one. If not, a map of occupancy is drawn.
     pub by_pages: bool,
     /// The width of a page.
     pub page: u32,
     /// The width of a card.
     pub card: u32,
-    /// How many cards are side by side.
+    /// The number of cards in a row.
     pub columns: u32,
 }
 
 impl Layout {
-    /// Returns the layout of `frames` frames with these spans and this number of physical pages, in cards at least as
-    /// wide as `widest`. Without `columns`, the number of cards in a row is the number that fits.
+    /// Returns the layout of `frames` frames with these spans and `physical` physical pages, in cards at least `widest`
+    /// wide. `columns` is the number of cards in a row. If it is `None`, a row has the number of cards that fits.
     pub fn new(
         spans: Vec<Shown>,
         physical: u32,
@@ -136,18 +136,18 @@ impl Layout {
             .saturating_sub(BETWEEN)
     }
 
-    /// The left side of a physical page, from the card's left side.
+    /// Returns the left side of a physical page, from the card's left side.
     pub fn physical_left(&self, page: u32) -> u32 {
         INDENT.saturating_add(page.saturating_mul(self.page.saturating_add(GAP)))
     }
 
-    /// The left side of a page of a span, from the card's left side.
+    /// Returns the left side of the page at `place` in a span, from the card's left side.
     pub fn virtual_left(&self, span: &Shown, place: u32) -> u32 {
         span.x
             .saturating_add(place.saturating_mul(self.page.saturating_add(GAP)))
     }
 
-    /// The width of a span.
+    /// Returns the width of a span of a class.
     pub fn span_width(&self, class: Class) -> u32 {
         class
             .pages()
@@ -155,7 +155,8 @@ impl Layout {
             .saturating_sub(GAP)
     }
 
-    /// The left side of a virtual page, from the card's left side. `None` if its span is not drawn.
+    /// Returns the left side of a virtual page, from the card's left side. Returns `None` if the page's span is not
+    /// drawn.
     pub fn find_page(&self, page: u32) -> Option<u32> {
         let span = self
             .spans
@@ -164,12 +165,12 @@ impl Layout {
         Some(self.virtual_left(span, page.saturating_sub(span.first)))
     }
 
-    /// Whether pages are so narrow that the class of a span is on a line of its own.
+    /// Whether pages are so narrow that the class of a one-page span is on a line of its own.
     pub fn is_narrow(&self) -> bool {
         self.page < 1_100
     }
 
-    /// The height of the names of spans.
+    /// Returns the height of the names above spans.
     pub fn heading(&self) -> u32 {
         if self.is_narrow() {
             TALL_HEADING
@@ -178,7 +179,7 @@ impl Layout {
         }
     }
 
-    /// The height of a card.
+    /// Returns the height of a card for a frame with these parts.
     pub fn height(&self, extent: &Extent) -> u32 {
         let drawn = if self.by_pages {
             self.heading()
@@ -199,7 +200,7 @@ pub fn above(extent: &Extent) -> u32 {
         .saturating_add(120)
 }
 
-/// The height of a map of `groups` groups.
+/// Returns the height of a map of `groups` groups.
 fn map_height(groups: u32) -> u32 {
     groups
         .min(MAX_ROWS + 1)
@@ -216,7 +217,7 @@ pub fn pages_of(spans: &[Shown]) -> u32 {
     pages
 }
 
-/// The width of a page, if `pages` pages are side by side.
+/// Returns the width of a page if `pages` pages of these spans are side by side.
 fn page_width(spans: &[Shown], pages: u32) -> u32 {
     let gaps = narrow(spans.len()).saturating_mul(SPAN_GAP - GAP);
     let room = (WIDTH - INDENT).saturating_sub(gaps) / pages.max(1);

@@ -3,7 +3,7 @@ use crate::layout::MARGIN;
 use crate::lettering::{Face, Label, width_of};
 use mesh_svg::{Area, Look, Text, add_rect};
 
-/// The colour that represents all objects.
+/// The number of the colour that represents all objects in the legend.
 const SAMPLE: u32 = 0;
 
 /// The top of the signs.
@@ -14,13 +14,13 @@ const TOP: u32 = 430;
 struct Sign {
     /// The look of the whole sign, which is drawn first.
     look: Look,
-    /// The look of what is drawn into the left part of the sign, if anything.
+    /// The look of the left part of the sign, which is drawn over the whole sign, or `None`.
     inner: Option<Look>,
     /// The meaning of the sign.
     words: &'static str,
 }
 
-/// A sign of one look.
+/// Returns a sign with one look.
 fn plain_sign(look: Look, words: &'static str) -> Sign {
     Sign {
         look,
@@ -29,7 +29,7 @@ fn plain_sign(look: Look, words: &'static str) -> Sign {
     }
 }
 
-/// Draws the signs of a picture of pages or of a map of occupancy.
+/// Draws the signs of a picture of pages if `by_pages`, and otherwise the signs of a map of occupancy.
 pub(crate) fn draw_legend(text: &mut Text, by_pages: bool) {
     if by_pages {
         draw_signs(text, &signs_of_pages())
@@ -38,7 +38,7 @@ pub(crate) fn draw_legend(text: &mut Text, by_pages: bool) {
     }
 }
 
-/// The signs of a picture of pages.
+/// Returns the signs of a picture of pages.
 fn signs_of_pages() -> [Sign; 5] {
     let object = Look::nth("o", SAMPLE);
     [
@@ -54,7 +54,7 @@ fn signs_of_pages() -> [Sign; 5] {
     ]
 }
 
-/// The signs of a map of occupancy.
+/// Returns the signs of a map of occupancy.
 fn signs_of_map() -> [Sign; 3] {
     [
         plain_sign(

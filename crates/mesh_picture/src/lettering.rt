@@ -7,9 +7,9 @@ use mesh_svg::{Anchor, Label as Words, Look, Text};
 pub enum Face {
     /// The title.
     Title,
-    /// A note in a line of its own.
+    /// A note on a line of its own.
     Note,
-    /// A note that stands out.
+    /// A bold note.
     Strong,
     /// A line of the plan.
     Line,
@@ -19,20 +19,20 @@ pub enum Face {
     Pill,
     /// A label.
     Label,
-    /// A label that stands out.
+    /// A bold label.
     Name,
     /// A small label.
     Small,
-    /// A small label that stands out.
+    /// A small bold label.
     Mark,
     /// An object's serial.
     Serial,
-    /// An object's serial where there is little room.
+    /// An object's serial if there is little room.
     Tight,
 }
 
 impl Face {
-    /// The style rule of the lettering.
+    /// Returns the style rule of the lettering.
     fn rule(self) -> &'static str {
         match self {
             Face::Title => "ft",
@@ -50,7 +50,7 @@ impl Face {
         }
     }
 
-    /// Returns the height of the letters. The style has the same heights.
+    /// Returns the height of the letters, which is also their height in the style rules.
     fn size(self) -> u32 {
         match self {
             Face::Title => 170,
@@ -63,7 +63,7 @@ impl Face {
         }
     }
 
-    /// The width of a letter, in hundredths of the height.
+    /// Returns the width of the letter with this byte, in hundredths of the height.
     fn percent(self, byte: u8) -> u32 {
         match self {
             Face::Line | Face::Number | Face::Pill => 60,
@@ -75,8 +75,8 @@ impl Face {
     }
 }
 
-/// The width of a letter of ordinary lettering, in hundredths of the height. A continuation byte of a letter of several
-/// bytes has width 0.
+/// Returns the width of a letter that is neither bold nor monospaced, in hundredths of the height. A continuation byte
+/// of a UTF-8 letter has width 0.
 fn plain_percent(byte: u8) -> u32 {
     match byte {
         b'i' | b'j' | b'l' | b'.' | b',' | b':' | b';' | b'|' | b'\'' | b'!' => 30,
@@ -90,7 +90,7 @@ fn plain_percent(byte: u8) -> u32 {
     }
 }
 
-/// The width of words.
+/// Returns the width of words in this lettering.
 pub fn width_of(face: Face, words: &[u8]) -> u32 {
     let mut hundredths = 0u32;
     for byte in words {
@@ -101,20 +101,20 @@ pub fn width_of(face: Face, words: &[u8]) -> u32 {
     share(face.size(), hundredths, 100)
 }
 
-/// The lettering and the place of words.
+/// The lettering, the colour and the place of words.
 #[derive(Clone, Copy)]
 pub struct Label {
     /// The lettering.
     pub face: Face,
     /// The colour.
     pub ink: Look,
-    /// The point of the words that is at the place: their start, middle or end.
+    /// The part of the words that is at the place: their start, middle or end.
     pub anchor: Anchor,
     /// The horizontal place of the words, from the left.
     pub x: u32,
     /// The baseline of the words.
     pub y: u32,
-    /// The greatest width of the words.
+    /// The greatest width of the words, or `ANY`.
     pub room: u32,
 }
 
@@ -173,13 +173,13 @@ impl Label {
         .add(text, words);
     }
 
-    /// Adds the words in a text to another text. An allocation failure in `words` becomes one of `text`.
+    /// Adds the words in `words` to `text`. If an allocation for `words` failed, `text` counts as failed too.
     pub fn add_text(self, text: &mut Text, words: &Text) {
         self.add(text, words.bytes());
         text.share_refusal(words);
     }
 
-    /// Adds words, and a number after them.
+    /// Adds words that are followed by a number.
     pub fn add_numbered(self, text: &mut Text, words: &str, number: u32) {
         let mut all = text.empty();
         all.add(words.as_bytes());

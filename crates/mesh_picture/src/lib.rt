@@ -1,12 +1,14 @@
 //! A picture of frames of a heap, as one SVG file.
 //!
-//! A `Frame` is the content of a picture of a heap. The caller passes frames one by one, each with the line of a plan
-//! after which the heap is in that state. Frames that look alike share one card (`gathering`, `alike`).
+//! A `Frame` is the content of a picture of a heap. The caller passes frames one by one. Each frame is the heap after a
+//! line of a plan, and is passed with that line. Frames in a row that look alike share one card (`gathering`, `alike`).
 //!
-//! A picture's size is written before its first card, so the caller passes all frames twice: first to a `Measure`, and
-//! then to the `Picture` that is made from the measure. The picture appends its text to a buffer. The modules that
-//! measure a card (`parts`, `rows`, `layout`, `lettering`, `pills`) come before those that draw it (`pages`, `objects`,
-//! `occupancy`, `mesh_bar`, `arrows`, `legend`).
+//! A picture's size is written before its first card, so the caller passes all frames twice. The first time they go to
+//! a `Measure`, and the second time to the `Picture` that is made from the measure. The picture appends its text to a
+//! buffer.
+//!
+//! These modules measure a card: `parts`, `rows`, `layout`, `lettering` and `pills`. These modules draw it: `pages`,
+//! `objects`, `occupancy`, `mesh_bar`, `arrows` and `legend`.
 #![tactic(auto)]
 
 mod alike;

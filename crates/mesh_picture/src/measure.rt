@@ -10,7 +10,7 @@ use crate::pills::caption_width;
 use std::alloc::{AllocError, Global};
 use std::marker::Model;
 
-/// The measurements of a picture while its points are taken in. A point is a line of the plan with the heap after it.
+/// The measurements of a picture while points are added. A point is a line of the plan, and the heap after this line.
 #[derive(Drop)]
 pub struct Measure {
     gathering: Gathering,
@@ -31,10 +31,10 @@ impl Model for Measure {
     ghost view = { λ measure. measure.next };
 }
 
-/// The final measurements, by which a picture is drawn.
+/// The final measurements that determine how a picture is drawn.
 #[derive(Drop)]
 pub struct Measured {
-    /// The position of everything.
+    /// The positions and sizes of all parts of a card.
     pub layout: Layout,
     /// The height of each row of cards.
     pub rows: Vec<u32>,
@@ -58,14 +58,14 @@ impl Measure {
         }
     }
 
-    /// The number of the line that is expected next.
+    /// Returns the number of the line that is expected next.
     pub fn next_line(&self) -> usize
         ensures { result ≡ self.now }
     {
         self.next
     }
 
-    /// Measures a line of the plan, and the heap after it. The only error is an allocation failure.
+    /// Adds a point: a line of the plan, and the heap after this line. The only error is an allocation failure.
     pub fn point(&mut self, line: &Line<'_>, frame: &Frame) -> Result<(), AllocError>
         ensures { OnOk result (self.new ≡ line.now.number + 1) }
     {
@@ -84,7 +84,7 @@ impl Measure {
         }
     }
 
-    /// Measures a frame that is due.
+    /// Measures a frame that gets a card of its own. The only error is an allocation failure.
     fn measure(&mut self, frame: &Frame) -> Result<(), AllocError>
         ensures { self.new ≡ self.old }
     {
@@ -94,7 +94,8 @@ impl Measure {
         add_spans(&mut self.spans, frame)
     }
 
-    /// Returns the measurements by which the picture is drawn, with this number of columns if one is given.
+    /// Returns the final measurements. `columns` is the number of cards in a row. If it is `None`, a row has the number
+    /// of cards that fits. The only error is an allocation failure.
     pub fn finish(mut self, columns: Option<u32>) -> Result<Measured, AllocError> {
         if !self.gathering.captions.is_empty() {
             self.extents.push(last_extent(&self.gathering))?;
@@ -126,12 +127,12 @@ fn extent_of(gathering: &Gathering, frame: &Frame) -> Extent {
     }
 }
 
-/// Returns the extent of the last card, which repeats the last frame below the lines gathered since.
+/// Returns the extent of the last card. This card repeats the last frame below the lines that were gathered after it.
 fn last_extent(gathering: &Gathering) -> Extent {
     extent_of(gathering, &gathering.last)
 }
 
-/// Returns the greatest width that one of the gathered captions needs.
+/// Returns the width of a card that the widest of the gathered captions needs. The only error is an allocation failure.
 fn widest_of(gathering: &Gathering) -> Result<u32, AllocError> {
     let mut widest = 0u32;
     for caption in gathering.captions.as_slice() {
@@ -140,7 +141,7 @@ fn widest_of(gathering: &Gathering) -> Result<u32, AllocError> {
     Ok(widest)
 }
 
-/// Returns how many physical pages must be drawn for a frame: all up to the last taken page.
+/// Returns the number of physical pages that must be drawn for a frame: all pages up to the last taken page.
 fn physical_of(frame: &Frame) -> u32 {
     let mut count = 0u32;
     for home in frame.homes.as_slice() {
@@ -151,8 +152,8 @@ fn physical_of(frame: &Frame) -> u32 {
     count
 }
 
-/// Adds the spans of a frame that are new. No span is added once the spans have more than `MAX_PAGES` pages, because
-/// the picture is then a map of occupancy.
+/// Adds the spans of a frame that `spans` doesn't contain yet. If `spans` has more than `MAX_PAGES` pages, adds no
+/// span, because the picture is a map of occupancy in that case. The only error is an allocation failure.
 fn add_spans(spans: &mut Vec<Shown>, frame: &Frame) -> Result<(), AllocError> {
     for member in frame.members.as_slice() {
         let known = spans.iter().any(|s| s.first == member.first);
@@ -167,7 +168,7 @@ fn add_spans(spans: &mut Vec<Shown>, frame: &Frame) -> Result<(), AllocError> {
     Ok(())
 }
 
-/// Returns the height of each row of cards, which is the height of its highest card.
+/// Returns for each row of cards the height of the row's highest card. The only error is an allocation failure.
 fn row_heights(layout: &Layout, extents: &[Extent], alloc: Global) -> Result<Vec<u32>, AllocError> {
     let mut rows = Vec::new(alloc);
     let mut column = 0u32;

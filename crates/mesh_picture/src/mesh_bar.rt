@@ -17,10 +17,10 @@ const NAME: u32 = 1_080;
 /// The least width of the part of a bar that represents one kind of step.
 const LEAST: u32 = 820;
 
-/// The greatest width that a bar gets beyond the least width of its parts.
+/// The greatest width by which a bar exceeds the least width of its parts.
 const MOST_MORE: u32 = 3_200;
 
-/// Draws a bar for each running mesh of a frame into a card with a given width.
+/// Draws a bar for each running mesh of a frame into a card of width `card`.
 pub(crate) fn draw_meshes(text: &mut Text, frame: &Frame, x: u32, y: u32, card: u32) {
     let mut top = y;
     for mesh in frame.meshes.as_slice() {
@@ -44,7 +44,7 @@ fn draw_mesh(text: &mut Text, frame: &Frame, mesh: &RunningMesh, x: u32, y: u32,
     }
 }
 
-/// Draws the names of a mesh's groups.
+/// Draws the name of a mesh: the numbers of its two groups.
 fn draw_mesh_name(text: &mut Text, mesh: &RunningMesh, x: u32, y: u32) {
     let mut words = text.empty();
     words.add(b"mesh ");
@@ -56,7 +56,7 @@ fn draw_mesh_name(text: &mut Text, mesh: &RunningMesh, x: u32, y: u32) {
         .add_text(text, &words);
 }
 
-/// Draws how many pages a cancelled mesh still has to unprotect.
+/// Draws the number of pages that a cancelled mesh must still unprotect.
 fn draw_unwinding(text: &mut Text, left: u32, x: u32, y: u32) {
     let mut words = text.empty();
     words.add(b"cancelled: ");
@@ -69,7 +69,8 @@ fn draw_unwinding(text: &mut Text, left: u32, x: u32, y: u32) {
     Label::start(Face::Name, "red", x, y.saturating_add(112)).add_text(text, &words);
 }
 
-/// Draws a bar with one part for each kind of step of a mesh. The mesh has this step order, and has made `made` steps.
+/// Draws a bar with one part for each kind of step of a mesh. The mesh has the step order `order`, and has made `made`
+/// steps.
 fn draw_bar(text: &mut Text, order: StepOrder, made: u32, x: u32, y: u32, room: u32)
     requires { IsStepOrder order }
 {
@@ -92,7 +93,7 @@ fn draw_bar(text: &mut Text, order: StepOrder, made: u32, x: u32, y: u32, room: 
     }
 }
 
-/// Draws the part of a bar for one kind of step, of which the mesh has `count` steps and has made `made`.
+/// Draws the part of a bar for one kind of step. The mesh has `count` steps of this kind, and has made `made` of them.
 fn draw_kind(text: &mut Text, kind: StepKind, count: u32, made: u32, area: Area) {
     add_rect(text, Look::of("ahead"), area, 30);
     if made > 0 {

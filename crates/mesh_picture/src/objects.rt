@@ -1,26 +1,26 @@
-//! Drawing the slots and objects of a page.
+//! Drawing the slots and the objects of a page.
 use crate::lettering::{Face, Label, width_of};
 use crate::numbers::share;
 use crate::parts::{Part, State};
 use mesh_class::Class;
 use mesh_svg::{Area, Look, Text, add_point, add_rect, begin_path, end_path};
 
-/// The bytes of a page.
+/// The number of bytes in a page.
 const PAGE_BYTES: u32 = 4_096;
 
-/// The most slots that are side by side in a page. If there are more, they are in several rows.
+/// The greatest number of slots that are side by side in a page. If a page has more slots, they are in several rows.
 const SLOTS_IN_ROW: u32 = 16;
 
-/// How many colours objects have.
+/// The number of colours of objects.
 const OBJECT_COLOURS: u32 = 12;
 
-/// The bytes of a row of a page's slots.
+/// Returns the number of bytes in one row of a page's slots.
 fn row_bytes(size: u32) -> u32 {
     size.saturating_mul(SLOTS_IN_ROW).min(PAGE_BYTES)
 }
 
-/// Returns the area of the bytes between two places in a page with slots of one size. All of these bytes are in one
-/// row.
+/// Returns the area of the bytes from `from` to `to` in a page with slots of `size` bytes. All of these bytes must be
+/// in one row.
 fn bytes_area(size: u32, from: u32, to: u32, area: Area) -> Area {
     let row = row_bytes(size);
     let above = from.checked_div(row).unwrap_or(0);
@@ -34,7 +34,7 @@ fn bytes_area(size: u32, from: u32, to: u32, area: Area) -> Area {
     }
 }
 
-/// Draws the bounds of the slots in the page at a place of a span.
+/// Draws the bounds of the slots in one page of a span. `place` is the page's index in the span.
 pub(crate) fn draw_grid(text: &mut Text, class: Class, place: u32, area: Area) {
     begin_path(text, Look::of("grid"));
     draw_row_bounds(text, class, area);
@@ -89,7 +89,7 @@ fn draw_part(text: &mut Text, part: &Part, area: Area) {
     draw_serial(text, part, slot);
 }
 
-/// The style rule of the rest of a slot.
+/// Returns the style rule for the unfilled part of a slot.
 fn rest_rule(state: State) -> &'static str {
     match state {
         State::Live => "rest",
@@ -98,7 +98,7 @@ fn rest_rule(state: State) -> &'static str {
     }
 }
 
-/// The style rule of an object's bytes.
+/// Returns the style rule for an object's bytes.
 fn filled_rule(state: State) -> &'static str {
     match state {
         State::Live => "",
@@ -125,7 +125,7 @@ fn draw_serial(text: &mut Text, part: &Part, slot: Area) {
         .add_text(text, &digits);
 }
 
-/// The lettering in which a serial fits into a slot, if there is one.
+/// Returns the lettering in which a serial fits into a slot, or `None` if no lettering fits.
 fn serial_face(digits: &[u8], slot: Area) -> Option<Face> {
     let room = slot.w.saturating_sub(14);
     if slot.h >= 115 && width_of(Face::Serial, digits) <= room {

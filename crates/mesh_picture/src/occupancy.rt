@@ -9,10 +9,10 @@ use mesh_class::Class;
 use mesh_svg::{Area, Look, Text, add_rect};
 use std::alloc::AllocError;
 
-/// The width of a group's slots.
+/// The width of the area that shows a group's slots.
 const SLOTS: u32 = 2_560;
 
-/// The places of the columns of a row.
+/// The left or right sides of a row's columns, from the card's left side.
 const NAME: u32 = 120;
 
 const CLASS: u32 = 1_400;
@@ -27,12 +27,12 @@ const HELD: u32 = 5_560;
 
 const MESH: u32 = 6_240;
 
-/// The first items, up to `count`, and the items after them.
+/// Returns the first `count` items, and the items after them. If there are fewer items, the first part has all of them.
 fn split<T>(items: &[T], count: usize) -> (&[T], &[T]) {
     items.split_at(count.min(items.len()))
 }
 
-/// Draws a row for each group.
+/// Draws a row for each group, up to `MAX_ROWS` rows.
 pub(crate) fn draw_groups(text: &mut Text, scene: &Scene) -> Result<(), AllocError> {
     let mut leads = scene.now.leads.as_slice();
     let mut objects = scene.now.objects.as_slice();
@@ -58,12 +58,12 @@ pub(crate) fn draw_groups(text: &mut Text, scene: &Scene) -> Result<(), AllocErr
     Ok(())
 }
 
-/// The top of a row.
+/// Returns the top of a row.
 fn row_top(scene: &Scene, row: u32) -> u32 {
     scene.top.saturating_add(row.saturating_mul(ROW))
 }
 
-/// Draws how many of `groups` groups are left out, if there are more than `MAX_ROWS`.
+/// Draws the number of groups that are left out. Draws nothing if `groups` is at most `MAX_ROWS`.
 fn draw_more(text: &mut Text, scene: &Scene, groups: u32) {
     if groups <= MAX_ROWS {
         return;
@@ -156,7 +156,7 @@ fn draw_run(text: &mut Text, class: Class, from: u32, to: u32, area: Area) {
     add_rect(text, Look::of("occ"), run.inset(2), 0);
 }
 
-/// Draws how many slots of a group are occupied, and whether stores to it are blocked.
+/// Draws the number of occupied slots of a group, and a mark if a page of the group is read-only.
 fn draw_count(text: &mut Text, scene: &Scene, row: &Row, top: u32) {
     let line = top.saturating_add(95);
     let mut words = text.empty();
@@ -169,14 +169,14 @@ fn draw_count(text: &mut Text, scene: &Scene, row: &Row, top: u32) {
     }
 }
 
-/// Draws the role of a group in each running mesh that it is in.
+/// Draws the role of a group in each running mesh that has the group as its source or destination.
 fn draw_part_in_mesh(text: &mut Text, scene: &Scene, row: &Row, top: u32) {
     for mesh in scene.now.meshes.as_slice() {
         draw_part_in(text, scene, row, top, mesh);
     }
 }
 
-/// Draws the role of a group in a mesh, if the group is in it.
+/// Draws the role of a group in a mesh, if the group is the mesh's source or destination.
 fn draw_part_in(text: &mut Text, scene: &Scene, row: &Row, top: u32, mesh: &RunningMesh) {
     let label = Label::start(
         Face::Mark,

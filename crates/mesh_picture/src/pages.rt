@@ -7,17 +7,17 @@ use crate::parts::{Contents, held_by, held_otherwise, lead_of, member_parts};
 use mesh_svg::{Area, Look, Text, add_path, add_rect};
 use std::alloc::AllocError;
 
-/// How many colours groups have.
+/// The number of colours of groups.
 pub(crate) const GROUP_COLOURS: u32 = 8;
 
-/// A frame, the one before it, and where it is drawn.
+/// A frame, the frame before it, and the place at which it is drawn.
 #[derive(Drop)]
 pub(crate) struct Scene<'a> {
-    /// The position of everything.
+    /// The positions and sizes of all parts of a card.
     pub layout: &'a Layout,
     /// The frame that is drawn.
     pub now: &'a Frame,
-    /// The frame that was drawn before it.
+    /// The frame that was drawn before `now`.
     pub before: Option<&'a Frame>,
     /// The card's left side.
     pub x: u32,
@@ -26,17 +26,18 @@ pub(crate) struct Scene<'a> {
 }
 
 impl Scene<'_> {
-    /// The upper side of the physical pages.
+    /// Returns the upper side of the physical pages.
     pub(crate) fn bottom(&self) -> u32 {
         self.top.saturating_add(PAGE_HEIGHT + LABELS + LANE)
     }
 
-    /// The place at a distance from the card's left side.
+    /// Returns the horizontal position at distance `x` from the card's left side.
     pub(crate) fn across(&self, x: u32) -> u32 {
         self.x.saturating_add(x)
     }
 
-    /// The area of a page that begins at a place.
+    /// Returns the area of a page. `x` is the page's left side, from the card's left side, and `y` is the page's upper
+    /// side.
     fn page(&self, x: u32, y: u32) -> Area {
         Area {
             x: self.across(x),
@@ -68,7 +69,7 @@ pub(crate) fn draw_virtual(text: &mut Text, scene: &Scene) -> Result<(), AllocEr
     Ok(())
 }
 
-/// Draws a span, or its empty place if the frame doesn't have the span.
+/// Draws a span, or an empty place if the frame doesn't have the span.
 fn draw_span(text: &mut Text, scene: &Scene, span: &Shown) -> Result<(), AllocError> {
     match scene.now.members.iter().find(|m| m.first == span.first) {
         None => {
@@ -104,7 +105,7 @@ fn draw_member(
     Ok(())
 }
 
-/// Draws a member's bracket with its group and class.
+/// Draws a bracket above a member's pages, with the member's group and class.
 fn draw_heading(text: &mut Text, scene: &Scene, span: &Shown, member: &Member) {
     let left = scene.across(span.x);
     let width = scene.layout.span_width(member.class);
@@ -142,7 +143,7 @@ fn draw_bracket(text: &mut Text, colour: u32, left: u32, right: u32, top: u32) {
     );
 }
 
-/// Draws a member's class, which ends at a place.
+/// Draws a member's class as words that end at `right`.
 fn draw_class(text: &mut Text, member: &Member, right: u32, line: u32) {
     let mut words = text.empty();
     words.add_number(member.class.size());
@@ -175,7 +176,7 @@ fn draw_virtual_page(
     Ok(())
 }
 
-/// Whether stores to a page are blocked.
+/// Whether a page is mapped and read-only.
 fn is_read_only(frame: &Frame, page: u32) -> bool {
     match lead_of(frame, page) {
         Some(lead) => lead.read_only,
@@ -183,7 +184,8 @@ fn is_read_only(frame: &Frame, page: u32) -> bool {
     }
 }
 
-/// Whether a page was mapped in the frame before, and with another protection.
+/// Whether a page was mapped with another protection in the frame before. False if the page wasn't mapped in that
+/// frame, or if there is no frame before.
 fn has_other_protection(scene: &Scene, page: u32, read_only: bool) -> bool {
     match scene.before {
         Some(before) => match lead_of(before, page) {

@@ -4,17 +4,17 @@ use crate::frame::{Frame, Home, Mapping, Member, Object, RunningMesh};
 use mesh_class::Class;
 use std::alloc::{AllocError, Global};
 
-/// The bytes of a page.
+/// The number of bytes in a page.
 const PAGE_BYTES: u32 = 4_096;
 
-/// The role of an object's bytes in a page.
+/// The state of an object's bytes in a physical page.
 #[derive(Clone, Copy, PartialEq, Eq)]
 pub enum State {
-    /// The bytes are where the object is read and written.
+    /// The object is mapped to these bytes: loads and stores use them.
     Live,
-    /// The bytes are a copy to which the object is not mapped yet.
+    /// A mesh has copied the object to these bytes, but the object is not mapped to them yet.
     Copied,
-    /// The object is no longer mapped to the bytes.
+    /// The object is no longer mapped to these bytes.
     Old,
 }
 
@@ -23,15 +23,15 @@ pub enum State {
 pub struct Part {
     /// The object's serial.
     pub serial: u32,
-    /// The bytes of a slot.
+    /// The size of the slot in bytes.
     pub size: u32,
-    /// The first byte of the part in the page.
+    /// The offset in the page at which the part begins.
     pub from: u32,
-    /// The end of the object's bytes in the page.
+    /// The offset in the page at which the object's bytes end.
     pub filled: u32,
-    /// The end of the slot's bytes in the page.
+    /// The offset in the page at which the slot ends.
     pub to: u32,
-    /// The role of the bytes.
+    /// The state of the bytes.
     pub state: State,
 }
 
@@ -44,7 +44,8 @@ pub struct Contents {
     pub parts: Vec<Part>,
 }
 
-/// Returns the part of an object that is in the page at a place of its span, if there is one.
+/// Returns the part of an object's slot that is in one page of the object's span. `place` is the page's index in the
+/// span. Returns `None` if the page contains no byte of the slot.
 fn part_of(object: &Object, class: Class, place: u32, state: State) -> Option<Part> {
     let from = object.slot.saturating_mul(class.size());
     let to = from.saturating_add(class.size());
@@ -64,8 +65,8 @@ fn part_of(object: &Object, class: Class, place: u32, state: State) -> Option<Pa
     })
 }
 
-/// Adds the parts of a member's objects that are in the page at `place` in the member's span. Only objects in the slots
-/// below `below` count.
+/// Adds the parts of a member's objects that are in the page at index `place` of the member's span. Only objects in
+/// slots with numbers below `below` are added.
 fn add_parts(
     parts: &mut Vec<Part>,
     frame: &Frame,
@@ -82,7 +83,8 @@ fn add_parts(
     Ok(())
 }
 
-/// Adds the part of an object that is in one page of the object's span, if there is such a part.
+/// Adds the part of an object that is in the page at index `place` of the object's span. Adds nothing if there is no
+/// such part.
 fn add_part(
     parts: &mut Vec<Part>,
     object: &Object,
@@ -96,12 +98,12 @@ fn add_part(
     Ok(())
 }
 
-/// The mapping of a virtual page.
+/// Returns the mapping of a virtual page, or `None` if the page isn't mapped.
 pub fn lead_of(frame: &Frame, page: u32) -> Option<&Mapping> {
     frame.leads.iter().find(|l| l.virtual_page == page)
 }
 
-/// Returns the parts of a member's objects that are in its page at `place`.
+/// Returns the parts of a member's objects that are in the page at index `place` of the member's span.
 pub fn member_parts(
     alloc: Global,
     frame: &Frame,
@@ -113,7 +115,7 @@ pub fn member_parts(
     Ok(parts)
 }
 
-/// The contents of a physical page.
+/// Returns the contents of a physical page. A page that is not taken has no parts.
 pub fn held_by(alloc: Global, frame: &Frame, page: u32) -> Result<Contents, AllocError> {
     let mut parts = Vec::new(alloc);
     let Some(home) = frame.homes.iter().find(|h| h.page == page && h.taken) else {
@@ -129,7 +131,8 @@ pub fn held_by(alloc: Global, frame: &Frame, page: u32) -> Result<Contents, Allo
     Ok(Contents { taken: true, parts })
 }
 
-/// Adds the objects that a mesh has copied to a page, if the page belongs to its destination.
+/// Adds the parts of the objects that a mesh has copied to a page. Adds nothing if the page doesn't belong to the
+/// mesh's destination.
 fn add_copies(
     parts: &mut Vec<Part>,
     frame: &Frame,
@@ -143,8 +146,8 @@ fn add_copies(
     add_group(parts, frame, home, mesh.source, below, State::Copied)
 }
 
-/// Adds the parts of a group's objects that are in a page, for the slots below `below`. Their role is live if their
-/// member is mapped to the page, and otherwise `unmapped`.
+/// Adds the parts of a group's objects that are in a page, for the slots with numbers below `below`. A part is `Live`
+/// if its member is mapped to the page. Otherwise its state is `unmapped`.
 fn add_group(
     parts: &mut Vec<Part>,
     frame: &Frame,
@@ -162,7 +165,8 @@ fn add_group(
     Ok(())
 }
 
-/// The role of a member's bytes in a page: live if the member is mapped to it, and otherwise `unmapped`.
+/// Returns the state of a member's bytes in a physical page: `Live` if the member is mapped to the page, and otherwise
+/// `unmapped`.
 fn state_in(frame: &Frame, member: &Member, home: &Home, unmapped: State) -> State {
     let page = member.first.saturating_add(home.place);
     match lead_of(frame, page) {
@@ -171,7 +175,7 @@ fn state_in(frame: &Frame, member: &Member, home: &Home, unmapped: State) -> Sta
     }
 }
 
-/// How many groups a frame has.
+/// Returns the number of groups in a frame.
 pub fn groups_of(frame: &Frame) -> u32 {
     let mut count = 0u32;
     let mut last = None;
@@ -196,7 +200,7 @@ pub fn group_of(frame: &Frame, page: u32) -> u32 {
     }
 }
 
-/// Whether a physical page had other contents in the frame `before`. False if there is no such frame.
+/// Whether a physical page had other contents than `now` in the frame `before`. False if `before` is `None`.
 pub fn held_otherwise(
     alloc: Global,
     before: Option<&Frame>,

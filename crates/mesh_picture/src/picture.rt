@@ -1,4 +1,4 @@
-//! The picture: a card for each change of the heap.
+//! The picture: one card for each visible change of the heap.
 ghost use Rattle.std.specs.Prelude.{◌≡◌, ◌+◌, [], IfOk, IfSome, OnOk, Some, codes};
 ghost use Rattle.mesh_svg.specs.Begins.{Begins};
 
@@ -19,20 +19,20 @@ use mesh_svg::{Area, Look, Text, add_rect, add_root};
 use std::alloc::{AllocError, Global};
 use std::marker::Model;
 
-/// The most letters of a title.
+/// The greatest number of bytes that are shown of a title.
 const MAX_TITLE: usize = 64;
 
-/// The least width of a picture, for its legend.
+/// The least width of a picture, which the legend needs.
 const LEAST_WIDTH: u32 = 12_200;
 
-/// The values of a job's header.
+/// The values in the header of a job file.
 #[derive(Clone, Copy)]
 pub struct Header {
-    /// The version of the job's file.
+    /// The version in the job file.
     pub version: u32,
-    /// The physical pages of the job's arena.
+    /// The number of physical pages in the job's arena.
     pub pages: u32,
-    /// How many workers the job has.
+    /// The number of workers in the job.
     pub workers: u32,
 }
 
@@ -67,7 +67,7 @@ impl Drop for Picture {
 pub struct Drawn<'a> {
     /// The title above the picture.
     pub title: &'a str,
-    /// How many frames are side by side. If `None`, as many as fit.
+    /// The number of cards in a row. If it is `None`, a row has the number of cards that fits.
     pub columns: Option<u32>,
     /// The number of the first line of the picture.
     pub first: usize,
@@ -95,14 +95,15 @@ impl Picture {
         })
     }
 
-    /// The number of the line that is expected next.
+    /// Returns the number of the line that is expected next.
     pub fn next_line(&self) -> usize
         ensures { result ≡ self.now }
     {
         self.next
     }
 
-    /// Appends the text before the first frame. If `text` was empty, it afterwards begins as an SVG file does.
+    /// Appends the text before the first frame. If `text` was empty, it begins with `<svg` afterwards, unless an
+    /// allocation failed.
     pub fn head(&self, text: &mut Text)
         ensures { text.old ≡ Some [] → IfSome text.new (Begins (codes "<svg")) }
     {
@@ -113,7 +114,7 @@ impl Picture {
         text.share_refusal(&head);
     }
 
-    /// Draws the head of the file: what comes after its first word `<svg` and before the first frame.
+    /// Draws the head of the file: the text after the first word `<svg` and before the first frame.
     fn draw_head(&self, text: &mut Text) {
         let width = self
             .measured
@@ -139,7 +140,8 @@ impl Picture {
         draw_legend(text, self.measured.layout.by_pages);
     }
 
-    /// Draws the values of the job's header, after the title.
+    /// Draws the note after the title: the values of the job's header, the numbers of the plan's lines, and what
+    /// `saved` is.
     fn draw_note(&self, text: &mut Text, width: u32) {
         let mut words = text.empty();
         self.header.add(&mut words);
@@ -157,8 +159,9 @@ impl Picture {
             .add_text(text, &words);
     }
 
-    /// Takes a line of the plan and the heap after it, and adds a frame if the picture has changed. The points must be
-    /// those that were measured, in the same order. The only error is an allocation failure.
+    /// Adds a point: a line of the plan, and the heap after this line. Draws a card if the heap doesn't look as in the
+    /// card before. The points must be those that were measured, in the same order. The only error is an allocation
+    /// failure.
     pub fn point(
         &mut self,
         line: &Line<'_>,
@@ -178,8 +181,8 @@ impl Picture {
         Ok(())
     }
 
-    /// Adds a last frame if there are lines after the last change, and then the end of the file. The only error is an
-    /// allocation failure.
+    /// Draws a last card if there are lines after the last change, and appends the end of the file. The only error is
+    /// an allocation failure.
     pub fn end(&self, text: &mut Text) -> Result<(), AllocError> {
         if !self.gathering.captions.is_empty() {
             self.draw_last(text)?;
@@ -188,17 +191,17 @@ impl Picture {
         Ok(())
     }
 
-    /// Draws a last card for lines that didn't change the picture.
+    /// Draws a last card for the lines after the last change. The card repeats the last frame.
     fn draw_last(&self, text: &mut Text) -> Result<(), AllocError> {
         self.draw(&self.gathering.last, text)
     }
 
-    /// The height of the next card's row.
+    /// Returns the height of the row that contains the next card.
     fn row_height(&self) -> u32 {
         self.measured.rows.get(self.row).copied().unwrap_or(0)
     }
 
-    /// Moves on to the place of the next card.
+    /// Moves to the place of the next card, which is in a new row if the current row is full.
     fn step(&mut self)
         ensures { self.new ≡ self.old }
     {
@@ -213,7 +216,7 @@ impl Picture {
         }
     }
 
-    /// The place of the next card.
+    /// Returns the area of the next card.
     fn card(&self) -> Area {
         let layout = &self.measured.layout;
         let beside = layout.card.saturating_add(BETWEEN);
@@ -225,7 +228,7 @@ impl Picture {
         }
     }
 
-    /// Draws a card.
+    /// Draws a card: its captions, page counts and bars of meshes, and the heap below them.
     fn draw(&self, frame: &Frame, text: &mut Text) -> Result<(), AllocError> {
         let card = self.card();
         add_rect(text, Look::of("card"), card, 60);
@@ -238,7 +241,7 @@ impl Picture {
         self.draw_heap(frame, text, card.x, below)
     }
 
-    /// Draws a heap below the height `y`.
+    /// Draws a heap below the vertical position `y`.
     fn draw_heap(&self, frame: &Frame, text: &mut Text, x: u32, y: u32) -> Result<(), AllocError> {
         let layout = &self.measured.layout;
         let space = if layout.by_pages {
@@ -263,7 +266,7 @@ impl Picture {
         Ok(())
     }
 
-    /// Returns the frame that was drawn last, or `None` if none was drawn.
+    /// Returns the frame that was drawn last, or `None` if no frame has been drawn.
     fn before(&self) -> Option<&Frame> {
         if self.gathering.begun {
             Some(&self.gathering.last)
@@ -274,7 +277,7 @@ impl Picture {
 }
 
 impl Header {
-    /// Appends the values of the header as words.
+    /// Appends the header's values as words.
     fn add(self, words: &mut Text) {
         words.add(b"version ");
         words.add_number(self.version);
@@ -290,7 +293,7 @@ impl Header {
     }
 }
 
-/// The height of a picture with these rows of cards.
+/// Returns the height of a picture with these heights of its rows of cards.
 fn total_height(rows: &[u32]) -> u32 {
     let mut height = HEAD;
     for row in rows {

@@ -9,7 +9,7 @@ use std::alloc::AllocError;
 pub enum Tone {
     /// The line was done.
     Done,
-    /// The line was blocked, and is to be retried.
+    /// The line was blocked, and can be retried.
     Blocked,
     /// The line was refused, or could not be run.
     Refused,
@@ -18,7 +18,7 @@ pub enum Tone {
 }
 
 impl Tone {
-    /// The style rule of the kind.
+    /// Returns the style rule of the kind.
     fn rule(self) -> &'static str {
         match self {
             Tone::Done => "pd",
@@ -29,7 +29,7 @@ impl Tone {
     }
 }
 
-/// The kind of an answer.
+/// Returns the kind of an answer.
 pub fn tone_of(answer: &[u8]) -> Tone {
     if answer.starts_with(b"blocked") {
         Tone::Blocked
@@ -42,14 +42,14 @@ pub fn tone_of(answer: &[u8]) -> Tone {
     }
 }
 
-/// Whether an answer means that nothing was done.
+/// Whether an answer reports that nothing was done because of a refusal, an ended script or a full journal.
 fn says_refused(answer: &[u8]) -> bool {
     answer.starts_with(b"refused")
         || answer.starts_with(b"over")
         || answer.starts_with(b"history full")
 }
 
-/// Whether an answer is one of the mesher's, for something that was done.
+/// Whether an answer reports something that the mesher did.
 fn is_of_mesher(answer: &[u8]) -> bool {
     is_step(answer)
         || answer.starts_with(b"left ")
@@ -79,10 +79,10 @@ const SPACE: u32 = 120;
 /// The gap between an answer and the sides of its pill.
 const PAD: u32 = 70;
 
-/// The width of the page counts, which are next to the first caption.
+/// The width that is reserved for the page counts next to the captions.
 const BESIDE: u32 = 1_800;
 
-/// The width that a card needs for a caption. The only error is an allocation failure.
+/// Returns the width of a card that a caption needs. The only error is an allocation failure.
 pub fn caption_width(caption: &Caption) -> Result<u32, AllocError> {
     let words = width_of(Face::Line, told(caption).whole()?);
     let answer = width_of(Face::Pill, caption.answer.as_slice());
@@ -93,7 +93,7 @@ pub fn caption_width(caption: &Caption) -> Result<u32, AllocError> {
     )
 }
 
-/// Returns the words of a caption. The number of its lines is appended if there are several.
+/// Returns the words of a caption. If the caption represents several lines, their number is appended.
 fn told(caption: &Caption) -> Text {
     let mut words = Text::new(*caption.words.allocator());
     words.add(caption.words.as_slice());
@@ -104,7 +104,7 @@ fn told(caption: &Caption) -> Text {
     words
 }
 
-/// Draws the captions of a frame into a card whose upper left corner is given.
+/// Draws the captions of a frame into the card with the upper left corner (`x`, `y`).
 pub fn draw_captions(text: &mut Text, gathering: &Gathering, x: u32, y: u32) {
     let count = gathering.captions.len();
     let mut top = y;
@@ -118,7 +118,7 @@ pub fn draw_captions(text: &mut Text, gathering: &Gathering, x: u32, y: u32) {
     }
 }
 
-/// Draws how many lines are left out.
+/// Draws the number of lines that are left out.
 fn draw_hidden(text: &mut Text, hidden: u32, x: u32, y: u32) {
     let mut words = text.empty();
     words.add(b".. and ");
@@ -141,7 +141,7 @@ fn draw_caption(text: &mut Text, caption: &Caption, x: u32, y: u32) {
     draw_pill(text, caption, after, y);
 }
 
-/// Draws the numbers of a caption's lines, which end at a place.
+/// Draws the number of a caption's line, or the numbers of its first and last line. The text ends at `x`.
 fn draw_line_number(text: &mut Text, caption: &Caption, x: u32, y: u32) {
     let mut words = text.empty();
     words.add_number(caption.from);

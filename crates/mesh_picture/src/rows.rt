@@ -10,7 +10,7 @@ pub struct Row {
     pub group: u32,
     /// The group's size class.
     pub class: Class,
-    /// How many members the group has.
+    /// The number of the group's members so far.
     pub members: u32,
     /// The slots of the group's objects.
     pub slots: Vec<u32>,
@@ -19,7 +19,7 @@ pub struct Row {
 }
 
 impl Row {
-    /// Returns a row without a group.
+    /// Returns a row of no group.
     pub fn new(alloc: Global) -> Row {
         Row {
             group: 0,
@@ -30,12 +30,12 @@ impl Row {
         }
     }
 
-    /// Whether a member begins a new row: it belongs to another group, or the row has no group yet.
+    /// Whether a member begins a new row: it belongs to another group, or the row has no member yet.
     pub fn ends_before(&self, member: &Member) -> bool {
         self.members == 0 || self.group != member.group
     }
 
-    /// Clears the row and begins that of a member's group.
+    /// Clears the row, and begins the row of the group that `member` belongs to.
     pub fn begin(&mut self, member: &Member) {
         self.group = member.group;
         self.class = member.class;
@@ -44,7 +44,7 @@ impl Row {
         self.read_only = false;
     }
 
-    /// Adds a member with its mappings and objects.
+    /// Adds a member with these mappings and objects. The only error is an allocation failure.
     pub fn add(&mut self, leads: &[Mapping], objects: &[Object]) -> Result<(), AllocError> {
         self.members = self.members.saturating_add(1);
         self.read_only = self.read_only || leads.iter().any(|l| l.read_only);

@@ -1,7 +1,7 @@
-//! The style of a picture: its lettering, and its colours on light and on dark background.
+//! The style of a picture: its lettering, and its colours on light and on dark backgrounds.
 use mesh_svg::{LETTERING as FAMILY, Text, add_lines, add_style};
 
-/// The rules of lettering.
+/// The style rules of lettering.
 static LETTERING: [&str; 6] = [
     FAMILY,
     ".fl,.fm,.fp{font-family:'DejaVu Sans Mono',Menlo,Consolas,monospace}",
@@ -37,7 +37,7 @@ static GROUPS: [&str; 7] = [
     ".hold{stroke-dasharray:50 30}.bold{stroke-width:34}",
 ];
 
-/// The colours of objects, and those of their serials.
+/// The colours of objects and of their serials.
 static OBJECTS: [&str; 8] = [
     ".o0{fill:#0072b2;stroke:#0072b2}.o1{fill:#e69f00;stroke:#e69f00}",
     ".o2{fill:#009e73;stroke:#009e73}.o3{fill:#cc79a7;stroke:#cc79a7}",
@@ -49,7 +49,7 @@ static OBJECTS: [&str; 8] = [
     ".u1,.u2,.u3,.u4,.u5,.u6,.u8,.u9{fill:#000}",
 ];
 
-/// The states of objects.
+/// The style rules for the states of objects' bytes.
 static STATES: [&str; 4] = [
     "rect[class^='o']{stroke-width:0}",
     ".rest{fill-opacity:.28}.restc{fill-opacity:.1}.resto{fill-opacity:.05}",
@@ -57,7 +57,7 @@ static STATES: [&str; 4] = [
     "rect.copy{fill-opacity:.32;stroke-width:12;stroke-dasharray:30 20}",
 ];
 
-/// Backgrounds, text colours and lines on dark background.
+/// Backgrounds, text colours and lines, on a dark background.
 static DARK_GROUNDS: [&str; 7] = [
     ".bg{fill:#101418}.card{fill:#1a2027;stroke:#39434e}",
     ".ink{fill:#e8ecf1}.soft{fill:#a4afbb}.green{fill:#6fd08c}",
@@ -68,7 +68,7 @@ static DARK_GROUNDS: [&str; 7] = [
     ".ahead{fill:#2a3543}.made{fill:#2f5f96}.occ{fill:#8fb4dd}",
 ];
 
-/// The colours of groups on dark background.
+/// The colours of groups on a dark background.
 static DARK_GROUPS: [&str; 5] = [
     ".k0{fill:#a9a0f0}.k1{fill:#f09a5a}.k2{fill:#6fc98a}.k3{fill:#e08ab5}",
     ".k4{fill:#5cc8d2}.k5{fill:#d0c750}.k6{fill:#dc8ed8}.k7{fill:#c4c9cf}",
@@ -83,7 +83,7 @@ static HATCHING: [&str; 2] = [
     "<rect class='hg' width='70' height='70'/><rect class='hs' width='20' height='70'/></pattern></defs>",
 ];
 
-/// Adds the rules of the style, and the hatching of read-only pages.
+/// Adds the style rules, and the hatching of read-only pages.
 pub(crate) fn add_rules(text: &mut Text) {
     let rules: [&[&str]; 5] = [&LETTERING, &GROUNDS, &GROUPS, &OBJECTS, &STATES];
     let dark: [&[&str]; 2] = [&DARK_GROUNDS, &DARK_GROUPS];

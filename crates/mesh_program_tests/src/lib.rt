@@ -2,7 +2,8 @@
 //!
 //! The runs are explorations, live sessions and scripts on threads. Tests of replays are in `mesh_replay_tests`.
 //!
-//! `memory` contains what the tests share. Apart from it, nothing but the tests is proved.
+//! The module `memory` contains what the tests of both crates share. Besides `memory`, only the tests and their helpers
+//! are proved.
 #![tactic(auto)]
 
 pub mod memory;

@@ -6,8 +6,8 @@ use std::process::Abort;
 
 mod runs;
 
-/// Asserts that `goes` is true for the run of a case. Every test asserts it through this function, because an assertion
-/// is proved again at each place where it is written.
+/// Asserts that `goes` is true for the run of a case. All tests share this function, because an assertion is proved
+/// again at each place where it is written.
 fn check<N: Display + Drop>(rt: &(impl Abort + AllocGlobal), goes: bool, run: &Ran, case: N) {
     assert!(rt; goes, "{case}: {run:?}");
 }

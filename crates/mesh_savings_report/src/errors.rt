@@ -13,7 +13,7 @@ pub enum SavingsError {
     /// One of the errors of a replay: the input failed, its text has a fault, or an allocation failed.
     #[error("{0}")]
     Replay(ReplayError),
-    /// The entry on this line is the first `free` or `alias` of a cell that holds no live object.
+    /// This line has the first `free` or `alias` of a cell that holds no live object.
     #[error("line {0}: not a history")]
     NotAHistory(u32),
 }

@@ -21,7 +21,8 @@ pub(crate) enum Gathered {
 }
 
 impl Gathered {
-    /// Returns the data of no samples, in the form that the options ask for. The only error is an allocation failure.
+    /// Returns the data before the first sample, in the form that the options ask for. The only error is an allocation
+    /// failure.
     pub(crate) fn new(alloc: Global, options: &SavingsOptions) -> Result<Gathered, AllocError>
         ensures { IfOk result (λ gathered. IsOf gathered options.now []) }
     {
@@ -31,7 +32,7 @@ impl Gathered {
         }
     }
 
-    /// Whether 2^32 - 1 samples were added. `look` must not be called then.
+    /// Whether 2^32 - 1 samples have been added. In that case `look` must not be called.
     pub(crate) fn is_full(&self) -> bool
         ensures { IsTrue result ↔ 2 ^ 32 - 1 ≤ calls_in self.now }
     {
@@ -57,8 +58,8 @@ impl Gathered {
         }
     }
 
-    /// Returns the text of the table or of the plot. The table shows these counts of the whole run; the plot shows no
-    /// counts. The only error is an allocation failure.
+    /// Returns the text of the table or of the plot. A table also shows `counts`, the counts of the whole run. A plot
+    /// shows no counts. The only error is an allocation failure.
     pub(crate) fn text(&self, alloc: Global, counts: &Counts) -> Result<Vec<u8>, AllocError>
         ensures { (options : SavingsOptions) (samples : List Sample) → IsOf self.now options samples
             → IfOk result (λ text. IsShownAs options.form options.window samples counts.now text.items) }

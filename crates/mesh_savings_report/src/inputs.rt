@@ -19,12 +19,12 @@ use std::alloc::Global;
 /// Replays the recorded history that is read from `input` on two heaps, and reports what meshing saves.
 ///
 /// The input is read to its end, or until a heap has too few virtual pages left for a `new`. In the second case the
-/// report covers the calls before that `new`, `used_up_at` is the number of that call, and nothing after it is looked
-/// at.
+/// report covers the calls before that `new`, and `used_up_at` is the number of that call. The input after that call is
+/// ignored.
 ///
 /// Errors: Text if a line has a fault; NotAHistory if a `free` or an `alias` is of a cell that holds no live object;
-/// Read if and only if the input failed; Memory if an allocation failed. If both Text and NotAHistory apply, the one
-/// that comes first in the input is returned. Write is never returned.
+/// Read if and only if the input failed; Memory if an allocation failed. If both Text and NotAHistory apply, the error
+/// is the one whose line comes first in the input. Write is never returned.
 pub fn report<I: Source>(
     alloc: Global,
     input: &mut I,
@@ -49,7 +49,7 @@ pub fn report<I: Source>(
 }
 
 /// Makes the calls of the input's entries, up to the first call for which a heap has too few virtual pages left.
-/// Returns the number of that call, counted from 1, or `None` if there is no such call.
+/// Returns the number of that call, counted from 1, or `None` if all calls were made.
 ///
 /// Errors: those of `report`.
 fn follow<I: Source>(

@@ -4,7 +4,7 @@ ghost use Rattle.mesh_savings_report.specs.Laws.{PerfectFiguresAreLeast, Perfect
 use mesh_placement::class_laws::objects_fit_pages;
 use mesh_savings::laws::{heaps_are_alike, heaps_are_sound};
 
-/// After any calls, perfect packing takes at most the pages of either heap, class by class.
+/// After any calls, the pages of each class with perfect packing are at most the pages of that class in either heap.
 pub fn perfect_is_least()
     ensures { PerfectIsLeast }
 {
@@ -13,8 +13,8 @@ pub fn perfect_is_least()
     heaps_are_alike();
 }
 
-/// If perfect packing takes at most the pages of either heap in each sample, class by class, then its total pages in
-/// the table are at most those of either heap: in peak, mean and end.
+/// If perfect packing needs at most the pages of either heap in each sample and class, the table's total pages with
+/// perfect packing are at most those of either heap. This is true for the peak, the mean and the end.
 pub fn perfect_figures_are_least()
     ensures { PerfectFiguresAreLeast }
 {}

@@ -1,9 +1,9 @@
 //! The report on a recorded history: the table or the plot of what meshing saves, or the reason why there is none.
 //!
-//! The modules from the bottom up: `samples` measures the heaps after a call and counts the calls of a run. `gathered`
-//! keeps the samples in the form that `options` ask for. `runs` makes each call on the heap that meshes and on the heap
-//! that doesn't. `inputs` reads a history from a device and passes its calls to `runs`. `reports` and `errors` define
-//! the results, and `laws` contains lemmas about every sample.
+//! The modules, from lower to higher: `samples` measures the heaps after a call and counts the calls of a run.
+//! `gathered` keeps the samples in the form that `options` asks for. `runs` makes each call on the heap that meshes and
+//! on the heap that doesn't. `inputs` reads a history from a device and passes its calls to `runs`. `reports` and
+//! `errors` define the results, and `laws` contains lemmas about every sample.
 #![tactic(auto)]
 
 mod errors;

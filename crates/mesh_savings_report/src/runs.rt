@@ -1,4 +1,4 @@
-//! `Run`: calls on both heaps, with a sample after each.
+//! `Run`: makes calls on both heaps, and adds a sample after each call.
 ghost use Rattle.std.specs.Prelude.{◌≡◌, ◌-◌, ◌^◌, ◌≤◌, [], List, true, false, length, IfErr, IfOk, IfSome, IsNone};
 ghost use Rattle.mesh_figures.specs.declared.samples.Sample.{Sample};
 ghost use Rattle.mesh_history.specs.Readings.{too_long};
@@ -38,7 +38,7 @@ impl Run {
         })
     }
 
-    /// Whether 2^32 - 1 calls were made.
+    /// Whether 2^32 - 1 calls have been made. In that case `take` must not be called.
     pub(crate) fn is_full(&self) -> bool
         ensures left { result ≡ false → HasRoom self.now }
         ensures full { (options : SavingsOptions) (f : Followed) (samples : List Sample)
@@ -48,15 +48,15 @@ impl Run {
         self.savings.is_full() || self.gathered.is_full()
     }
 
-    /// Returns the number of calls that were made.
+    /// Returns the number of calls that have been made.
     pub(crate) fn calls(&self) -> u32
         ensures { result ≡ self.now.savings.counts.calls }
     {
         self.savings.counts().calls
     }
 
-    /// Makes the next call in both heaps, and adds a sample. A call that can't be made changes nothing. The only error
-    /// is an allocation failure.
+    /// Makes the next call in both heaps, and adds a sample. If the call can't be made, changes nothing and returns the
+    /// reason: `NoObject` or `NoAddresses`. The only error is an allocation failure.
     pub(crate) fn take(&mut self, call: &Call) -> Result<Taken, AllocError>
         requires { HasRoom self.old }
         ensures { IfOk result (IsTakenBy self.old self.new (λ options f. step options.settings f call.now)) }
@@ -69,12 +69,12 @@ impl Run {
         Ok(taken)
     }
 
-    /// Makes the call of the entry on a line, if the entry has one. If a heap has too few virtual pages left for the
-    /// call, returns the number of the call, counted from 1.
+    /// Makes the call of an entry, which is on line `line`. Returns `None` if the call was made, or if the entry has no
+    /// call. If a heap has too few virtual pages left for the call, returns the number of the call, counted from 1.
     ///
     /// Errors: NotAHistory if the call is a `free` or an `alias` of a cell that holds no live object, and Memory if an
-    /// allocation failed. A TOO_LONG fault is returned for a call after 2^32 - 1 others, but a text with that many
-    /// calls has too many lines already.
+    /// allocation failed. If 2^32 - 1 calls have been made, the error is a TOO_LONG fault. No input reaches this error,
+    /// because a text with that many calls has too many lines already.
     pub(crate) fn take_entry(
         &mut self,
         entry: &RecordedEntry,
@@ -100,7 +100,7 @@ impl Run {
         }
     }
 
-    /// Returns the table of the calls so far, or their plot. The only error is an allocation failure.
+    /// Returns the table or the plot of the calls so far, as text. The only error is an allocation failure.
     pub(crate) fn text(&self, alloc: Global) -> Result<Vec<u8>, AllocError>
         ensures { (options : SavingsOptions) (f : Followed) (samples : List Sample) → IsRun self.now options f samples
             → IfOk result (λ text. IsShown options f samples text.items) }
@@ -109,7 +109,7 @@ impl Run {
     }
 }
 
-/// Returns the fault of a text with more calls than can be numbered.
+/// Returns the TOO_LONG fault, for a text with more than 2^32 - 1 calls.
 fn too_many_calls() -> SavingsError
     ensures { result ≡ SavingsError.Replay (ReplayError.Text too_long) }
 {

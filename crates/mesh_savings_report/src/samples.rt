@@ -11,7 +11,7 @@ use mesh_class::{Class, all_classes};
 use mesh_figures::{Counts, Sample};
 use mesh_savings::{Placement, Savings};
 
-/// Returns the sample of both heaps: their pages, those of perfect packing, and the live bytes.
+/// Returns the sample of both heaps: the pages of each heap, the pages with perfect packing, and the live bytes.
 pub(crate) fn sample_of(savings: &Savings) -> Sample
     ensures value { (f : Followed) → Follows savings.now f → result ≡ sample_of f }
     ensures without { AreFew result.without }
@@ -48,7 +48,7 @@ pub(crate) fn counts_of(savings: &Savings) -> Counts
     }
 }
 
-/// Returns for each class the pages of the fewest spans in which the heap's objects of the class fit.
+/// Returns for each class the number of pages in the fewest spans that can contain the heap's objects of the class.
 fn perfect_pages(placement: &Placement) -> [u32; 10]
     ensures value { result ≡ perfect_pages (table_of placement.now) }
     ensures fits { FitsPages (table_of placement.now) }
@@ -63,7 +63,7 @@ fn perfect_pages(placement: &Placement) -> [u32; 10]
     pages
 }
 
-/// Returns the pages of the fewest spans of a class in which `objects` objects fit.
+/// Returns the number of pages in the fewest spans of a class that can contain `objects` objects.
 fn pages_needed(class: Class, objects: u32) -> u32
     requires { objects ≤ 2 ^ 24 }
     ensures { result ≡ pages_needed class objects }

@@ -1,7 +1,7 @@
 //! The calls that a mesher makes on the book while it holds the lock.
 //!
-//! A lock's contract says nothing about the book that it guards. So these functions take the `Book` itself and carry
-//! the full contract. Each call of a mesher takes the lock and runs one of these functions.
+//! A lock's contract says nothing about the book that it guards. So these functions take the `Book` itself, and their
+//! contracts state the effect on it in full. A mesher takes the lock for each call, and runs one of these functions.
 ghost use Rattle.std.specs.Prelude.{◌≡◌, OnErr, OnOk};
 ghost use Rattle.model_heap.specs.Mesh.{begin, mesh_in, mesh_of_class, step};
 ghost use Rattle.mesh_mutator.specs.Book.{table_of_book};
@@ -15,7 +15,7 @@ use mesh_mutator::{Book, Refusal};
 use mesh_search::Pair;
 use mesh_steps::StepDone;
 
-/// Begins a mesh of a pair by the book's `begin`. Counts the call if it isn't refused.
+/// Begins a mesh of `pair` with the book's `begin`. If the book doesn't refuse, counts the call in `calls`.
 pub(crate) fn begin(book: &mut Book, pair: Pair, calls: &mut CallBudget) -> Result<u32, Refusal>
     requires { IsUsedUp calls.old → ⊥ }
     ensures answered { IsAnswered KeepsBook book.old book.new
@@ -29,7 +29,8 @@ pub(crate) fn begin(book: &mut Book, pair: Pair, calls: &mut CallBudget) -> Resu
     Ok(left)
 }
 
-/// Makes the next step of the mesh of a class by the book's `step`. Counts the call if it isn't refused.
+/// Makes the next step of the mesh of a class with the book's `step`. If the book doesn't refuse, counts the call in
+/// `calls`.
 pub(crate) fn step(
     book: &mut Book,
     class: Class,

@@ -22,8 +22,8 @@ pub(crate) struct Joined {
     pub ends: Vec<MesherEnd>,
 }
 
-/// Joins all threads and returns their results. The error is an allocation failure for the lists of the results. All
-/// threads are joined in that case too, because dropping a handle leaks its result.
+/// Joins all threads and returns their results. The only error is an allocation failure for the lists of the results.
+/// All threads are joined even in that case, because dropping a handle leaks its result.
 pub(crate) fn join_all<'a, R: Threads>(
     rt: &R,
     workers: Vec<PromisedHandle<Served, Works<'a>>>,
@@ -50,7 +50,7 @@ pub(crate) fn join_all<'a, R: Threads>(
     Ok(Joined { served, ends })
 }
 
-/// The service of a run in which nothing stopped a thread: the seats, and what each worker and each mesher did.
+/// The results of a run in which no thread was stopped: the seats, and what each worker and each mesher did.
 #[derive(Drop)]
 pub(crate) struct Service {
     pub seats: Vec<Seat>,
@@ -58,8 +58,8 @@ pub(crate) struct Service {
     pub meshers: Vec<Meshed>,
 }
 
-/// Returns the answer of a run, from the results of its threads. The error is `Memory` if the allocation for the lists
-/// of these results failed.
+/// Returns the answer of a run, from the results of its threads. `refused` is the reason why a thread couldn't be
+/// started, if there is one. If `joined` is an error, the error is `Memory`.
 pub(crate) fn answer_of(
     alloc: Global,
     refused: Option<EarlyExit>,
@@ -72,8 +72,8 @@ pub(crate) fn answer_of(
     service_of(alloc, refused, threads.served, threads.ends)
 }
 
-/// Returns what the threads did, if each was started and none was stopped. Otherwise the error is the first stop in the
-/// order of `RunError`. If nothing was stopped, the only error is an allocation failure for the lists.
+/// Returns what the threads did, if each thread was started and none was stopped. Otherwise the error is the first stop
+/// in the order of `RunError`. If no thread was stopped, the only error is an allocation failure for the lists.
 fn service_of(
     alloc: Global,
     refused: Option<EarlyExit>,
@@ -95,7 +95,8 @@ fn service_of(
     Ok(lists_of(alloc, served, ends)?)
 }
 
-/// Returns the seats, and what each worker and each mesher did, as lists.
+/// Returns lists of the seats, of what each worker did, and of what each mesher did. The only error is an allocation
+/// failure.
 fn lists_of(alloc: Global, served: Vec<Served>, ends: Vec<MesherEnd>) -> Result<Service, AllocError>
     ensures seats { IfOk result (λ service. service.seats.items ≡ map (λ one. one.seat) served.items) }
     ensures workers { IfOk result (λ service. service.workers.items ≡ map (λ one. one.worked) served.items) }
@@ -111,8 +112,8 @@ fn lists_of(alloc: Global, served: Vec<Served>, ends: Vec<MesherEnd>) -> Result<
     })
 }
 
-/// Returns the first stop in the order of `RunError`, among the failure to start a thread, the stops of the meshers and
-/// those of the workers.
+/// Returns the first stop in the order of `RunError`, among `refused`, the stops of the meshers and the stops of the
+/// workers. Returns `None` if there is no stop.
 fn first_stop_of(
     refused: Option<EarlyExit>,
     ends: &[MesherEnd],
@@ -130,7 +131,7 @@ fn first_stop_of(
     stop
 }
 
-/// Returns what each mesher did, in the order of the meshers.
+/// Returns what each mesher did, in the order of `ends`. The only error is an allocation failure.
 fn meshers_of_ends(alloc: Global, ends: Vec<MesherEnd>) -> Result<Vec<Meshed>, AllocError>
     ensures { IfOk result (λ meshers. meshers.items ≡ map (λ one. one.meshed) ends.items) }
 {
@@ -141,7 +142,7 @@ fn meshers_of_ends(alloc: Global, ends: Vec<MesherEnd>) -> Result<Vec<Meshed>, A
     Ok(meshers)
 }
 
-/// Returns how each script ended, in the order of the scripts.
+/// Returns how each script ended, in the order of the scripts. The only error is an allocation failure.
 fn workers_of_served(alloc: Global, served: &[Served]) -> Result<Vec<Worked>, AllocError>
     ensures { IfOk result (λ workers. workers.items ≡ map (λ one. one.worked) served.now) }
 {
@@ -152,7 +153,7 @@ fn workers_of_served(alloc: Global, served: &[Served]) -> Result<Vec<Worked>, Al
     Ok(workers)
 }
 
-/// Returns the seats of the workers, in the order of the workers.
+/// Returns the seats of the workers, in the order of the workers. The only error is an allocation failure.
 fn seats_of_served(alloc: Global, served: Vec<Served>) -> Result<Vec<Seat>, AllocError>
     ensures { IfOk result (λ seats. seats.items ≡ map (λ one. one.seat) served.items) }
 {

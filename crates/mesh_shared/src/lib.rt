@@ -1,10 +1,11 @@
 //! Runs scripts in threads, on a book that they share, while other threads search and mesh.
 //!
-//! `run_threads` serves each script in a thread of its own (`worker`). Meshers in their own threads search for pairs
-//! and mesh them (`mesher`). At the end `run_threads` settles the seats. All threads call a gate, at which a test can
-//! hold a thread.
+//! `run_threads` makes the calls of each script in a thread of its own (`worker`). Meshers, each in its own thread,
+//! search for pairs and mesh them (`mesher`). At the end `run_threads` merges the journal and the seats into one
+//! history. All threads call a gate, at which a test can stop a thread.
 //!
-//! `run_abandoned` lets meshers stop early and workers give up. `run_within` also returns what meshers and workers did.
+//! `run_abandoned` lets meshers stop early and workers give up. `run_within` also returns what each mesher and each
+//! worker did.
 #![tactic(auto)]
 
 mod guarded;

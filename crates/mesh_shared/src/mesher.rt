@@ -35,7 +35,7 @@ pub struct Meshed {
     pub number: u32,
     /// The number of rounds in which each pair that was found was either refused or meshed until no step was left.
     pub rounds: u32,
-    /// The number of the mesher's calls that weren't refused, if its calls are limited.
+    /// The number of the mesher's calls that weren't refused, if the calls are limited.
     pub calls: u32,
 }
 
@@ -44,12 +44,13 @@ pub struct Meshed {
 pub(crate) struct MesherEnd {
     /// What the mesher did.
     pub meshed: Meshed,
-    /// Why the mesher ended before it made all rounds. `None` if it made all rounds, or used up its calls.
+    /// The reason why the mesher ended before it had made all rounds. `None` if it made all rounds, or used up its
+    /// calls.
     pub stop: Option<EarlyExit>,
 }
 
-/// The promise of a mesher: it has its number, made all rounds unless something ended it, and made no more calls that
-/// weren't refused than its limit allows.
+/// The promise of a mesher's thread about its result. The mesher has this number, and made all rounds unless a stop or
+/// the limit of calls ended it. At most `most` of its calls weren't refused.
 #[derive(Clone, Copy)]
 pub(crate) struct Meshes {
     pub rounds: u32,
@@ -70,7 +71,7 @@ struct Round {
     views: Vec<ClassView>,
     /// The result of the search of each view.
     found: Vec<Found>,
-    /// The number of views in which each pair was either refused or meshed until no step was left.
+    /// The number of views of which each pair was either refused or meshed until no step was left.
     whole: usize,
 }
 
@@ -84,8 +85,8 @@ impl Round {
 }
 
 impl<'a, R: Threads + Wait + Sync, G: Gate + Sync> Mesher<'a, R, G> {
-    /// Makes all rounds, unless the mesher uses up its calls first, and returns what the mesher did. A mesh is left
-    /// running only if the calls are used up before its last step.
+    /// Makes all rounds, unless the mesher is stopped or uses up its calls first. Returns what the mesher did. A mesh
+    /// is left running only if the calls are used up before the mesh's last step.
     pub(crate) fn mesh(&self, most: Option<u32>) -> MesherEnd
         requires some { 1 ≤ self.now.plan.now.workers }
         requires most { self.now.plan.now.workers ≤ 16 }
@@ -102,8 +103,8 @@ impl<'a, R: Threads + Wait + Sync, G: Gate + Sync> Mesher<'a, R, G> {
         MesherEnd { meshed, stop }
     }
 
-    /// Makes the rounds one after another. Returns how many rounds were made to their ends, and what stopped the
-    /// mesher.
+    /// Makes the rounds one after another, until all are made, the calls are used up, or a round fails. Returns the
+    /// number of rounds that were made to their ends, and the stop if a round failed.
     fn make_rounds(&self, calls: &mut CallBudget) -> (u32, Option<EarlyExit>)
         requires some { 1 ≤ self.now.plan.now.workers }
         requires most { self.now.plan.now.workers ≤ 16 }
@@ -128,8 +129,8 @@ impl<'a, R: Threads + Wait + Sync, G: Gate + Sync> Mesher<'a, R, G> {
         (whole, None)
     }
 
-    /// Searches the views of the mesher's classes, outside the lock, and meshes the pairs that were found, classes
-    /// ascending.
+    /// Takes the views of the mesher's classes, searches them outside the lock, and meshes the pairs that were found,
+    /// classes ascending. An error is returned only if the views or the search fail.
     fn make_round(&self, round: u32, calls: &mut CallBudget) -> Result<Round, EarlyExit>
         requires some { 1 ≤ self.now.plan.now.workers }
         requires most { self.now.plan.now.workers ≤ 16 }
@@ -169,8 +170,8 @@ impl<'a, R: Threads + Wait + Sync, G: Gate + Sync> Mesher<'a, R, G> {
         own_of(self.alloc, views, self.plan.meshers, self.number)
     }
 
-    /// Meshes the pairs that were found in each view. Returns in how many views each pair was either refused or meshed
-    /// until no step was left.
+    /// Meshes the pairs that were found in each view, as long as calls are left. Returns the number of views of which
+    /// each pair was either refused or meshed until no step was left.
     fn mesh_all(&self, views: &[ClassView], found: &[Found], calls: &mut CallBudget) -> usize
         requires { length views.now ≡ length found.now }
         ensures whole { (IsUsedUp calls.new → ⊥) → result ≡ length found.now }
@@ -187,8 +188,8 @@ impl<'a, R: Threads + Wait + Sync, G: Gate + Sync> Mesher<'a, R, G> {
         whole
     }
 
-    /// Meshes pairs of a class one after another, as long as calls are left. Returns how many pairs were either refused
-    /// or meshed until no step was left.
+    /// Meshes pairs of a class one after another, as long as calls are left. Returns the number of pairs that were
+    /// either refused or meshed until no step was left.
     fn mesh_pairs(&self, class: Class, pairs: &[Pair], calls: &mut CallBudget) -> usize
         ensures whole { (IsUsedUp calls.new → ⊥) → result ≡ length pairs.now }
         ensures over { IsUsedUp calls.old → IsUsedUp calls.new }
@@ -206,8 +207,8 @@ impl<'a, R: Threads + Wait + Sync, G: Gate + Sync> Mesher<'a, R, G> {
         ended
     }
 
-    /// Meshes a pair step by step, unless its `begin` is refused. Returns how many steps were left when the mesher
-    /// stopped.
+    /// Begins a mesh of a pair, and makes its steps until no step is left or the calls are used up. Returns the number
+    /// of steps that are left. Returns the refusal if `begin` or a step is refused.
     fn mesh_pair(&self, class: Class, pair: Pair, calls: &mut CallBudget) -> Result<u32, Refusal>
         requires { IsUsedUp calls.old → ⊥ }
         ensures ended { (IsUsedUp calls.new → ⊥) → IfOk result (λ left. left ≡ 0) }
@@ -226,7 +227,7 @@ impl<'a, R: Threads + Wait + Sync, G: Gate + Sync> Mesher<'a, R, G> {
         unreachable!()
     }
 
-    /// Begins a mesh under the exclusive lock. Returns the number of its steps.
+    /// Begins a mesh under the exclusive lock. Returns the number of the mesh's steps, or the refusal.
     fn begin(&self, pair: Pair, calls: &mut CallBudget) -> Result<u32, Refusal>
         requires { IsUsedUp calls.old → ⊥ }
         ensures { calls.new.most ≡ calls.old.most }
@@ -236,7 +237,7 @@ impl<'a, R: Threads + Wait + Sync, G: Gate + Sync> Mesher<'a, R, G> {
         Ok(left)
     }
 
-    /// Makes a step of the mesh that this mesher began, under the exclusive lock.
+    /// Makes a step of the mesh that this mesher began, under the exclusive lock. Returns the step, or the refusal.
     fn step(&self, class: Class, calls: &mut CallBudget) -> Result<StepDone, Refusal>
         requires { IsUsedUp calls.old → ⊥ }
         ensures { calls.new.most ≡ calls.old.most }
@@ -261,7 +262,8 @@ fn has_ended(tried: Result<u32, Refusal>) -> bool
     }
 }
 
-/// Returns the views whose place among the views of all classes has the remainder `number` when divided by `meshers`.
+/// Returns the views of the mesher with this number: those whose place in `all` modulo `meshers` is `number`. The only
+/// error is an allocation failure.
 fn own_of(
     alloc: Global,
     all: Vec<ClassView>,

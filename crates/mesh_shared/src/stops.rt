@@ -1,4 +1,4 @@
-//! Why a run in threads returns no result.
+//! The reasons why a run in threads returns no result.
 ghost use Rattle.std.specs.Prelude.{◌≡◌};
 ghost use Rattle.mesh_shared.specs.Stops.{either_stop, error_of, first_of, stop_of};
 ghost use Rattle.mesh_shared.specs.declared.stops.RunError.{RunError};
@@ -9,12 +9,12 @@ use mesh_search::SearchError;
 use std::alloc::AllocError;
 use thiserror::Error;
 
-/// The reason why a run in threads returns no result: of the errors that its threads met, the first in the order of the
+/// The reason why a run in threads returns no result. If several errors occurred, it is the first in the order of the
 /// variants.
 #[derive(Debug, Drop, PartialEq, Eq, Error)]
 pub enum RunError {
-    /// An allocation failed: for the seats, for the threads, for a worker's `New`, for the views of a mesher or in its
-    /// search.
+    /// An allocation failed: for the seats, for the threads, for a worker's `New`, for a mesher's views, or in a
+    /// mesher's search.
     #[error("out of memory")]
     Memory,
     /// A thread couldn't be started, or a searcher's answer isn't the one that was asked for.
@@ -23,8 +23,8 @@ pub enum RunError {
     /// The journal had no room for a worker's command.
     #[error("history full")]
     History,
-    /// All threads came to their ends, but the journal and the seats make no history, or an allocation for the history
-    /// failed.
+    /// All threads ended without a stop, but the journal and the seats don't merge into a history, or an allocation for
+    /// the history failed.
     #[error("{0}")]
     Finish(FinishError),
 }
@@ -67,7 +67,7 @@ impl From<EarlyExit> for RunError {
     }
 }
 
-/// Why a thread ended before it was done.
+/// The reason why a thread ended before it was done.
 #[derive(Clone, Copy, PartialEq, Eq)]
 pub(crate) enum EarlyExit {
     /// An allocation failed.
@@ -98,7 +98,7 @@ impl From<SearchError> for EarlyExit {
 }
 
 impl EarlyExit {
-    /// Returns which of two stops is reported.
+    /// Returns the one of two stops that is reported: the first in the order `Memory`, `Thread`, `History`.
     fn first_of(self, other: EarlyExit) -> EarlyExit
         ensures { result ≡ first_of self other }
     {
@@ -110,7 +110,7 @@ impl EarlyExit {
     }
 }
 
-/// Returns which stop is reported, given those of two threads, if there are any.
+/// Returns the stop that is reported for two threads. If neither thread was stopped, returns `None`.
 pub(crate) fn either_stop(one: Option<EarlyExit>, other: Option<EarlyExit>) -> Option<EarlyExit>
     ensures { result ≡ either_stop one other }
 {

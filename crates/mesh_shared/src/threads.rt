@@ -1,4 +1,4 @@
-//! Runs scripts on threads, with meshers that run between the commands.
+//! Runs scripts in threads, with meshers that run at the same time.
 ghost use Rattle.std.specs.Prelude.{◌≡◌, ◌≤◌, [], None, length, map, vec_capacity, vec_len, IfOk, IfSome};
 ghost use Rattle.std.specs.List.{All};
 ghost use Rattle.model_words.specs.Commands.{IsInRange};
@@ -21,20 +21,20 @@ use std::sync::Wait;
 use std::thread;
 use std::thread::{PromisedHandle, Scope, Threads};
 
-/// Runs 1 to 64 scripts, each in a thread of its own, on a book with an empty journal. Meanwhile it meshes as the plan
-/// states, each mesher in a thread of its own. Returns the heap, the root cells and one history, in which each worker's
+/// Runs 1 to 64 scripts, each in a thread of its own, on a book with an empty journal. Meanwhile, meshers mesh by the
+/// plan, each in a thread of its own. Returns the heap, the root cells and one history. In the history each worker's
 /// entries are its whole script.
 ///
-/// A worker retries its next command while it is `Blocked`. Each command, and each call of a mesher, is one step in one
-/// critical section of the book's lock. Searches run outside the lock, and reads run concurrently. No mesh is left
-/// running.
+/// A worker retries its next command while the command is `Blocked`. Each command, and each call of a mesher, is one
+/// step in one critical section of the book's lock. Searches run outside the lock, and reads run concurrently. No mesh
+/// is left running.
 ///
-/// Threads call the gate at points on their way, for tests; `NoGate` blocks no thread. Threads that were started are
-/// joined in every case.
+/// Threads call `gate` at certain points, for tests. `NoGate` blocks no thread. All threads that were started are
+/// joined, even if there is an error.
 ///
-/// A worker that meets an allocation failure or a full journal ends, and so does a mesher whose views or search fail.
-/// All others run to their own ends. If there are several errors, the first in the order `Memory`, `Thread`, `History`
-/// and `Finish` is returned.
+/// A worker ends if it meets an allocation failure or a full journal. A mesher ends if its views or its search fail.
+/// All other threads run to their ends. If there are several errors, the first in the order `Memory`, `Thread`,
+/// `History`, `Finish` is returned.
 pub fn run_threads<R: Threads + Wait + Sync, G: Gate + Sync>(
     rt: &R,
     alloc: Global,
@@ -55,10 +55,10 @@ pub fn run_threads<R: Threads + Wait + Sync, G: Gate + Sync>(
 
 /// Runs scripts as `run_threads` does, with meshers that are abandoned and workers that give up.
 ///
-/// Each mesher ends after `stop_after` calls of `begin` or `step` that weren't refused, even within a mesh. A worker
-/// makes at most `tries` attempts at a command, at least one. It ends if the last attempt is `Blocked`, which is no
-/// error. So each worker's entries are a prefix of its script. The heap that is returned may have running meshes, which
-/// its owner may step or cancel.
+/// Each mesher ends after `stop_after` calls of `begin` or `step`, even within a mesh. Refused calls aren't counted. A
+/// worker makes at most `tries` attempts at a command. `tries` must be at least 1. If the last attempt is `Blocked`,
+/// the worker ends without an error. So each worker's entries are a prefix of its script. The returned heap may have
+/// running meshes, which its owner may step or cancel.
 pub fn run_abandoned<R: Threads + Wait + Sync, G: Gate + Sync>(
     rt: &R,
     alloc: Global,
@@ -108,12 +108,12 @@ struct RunContext<'s, R, G> {
     shared: &'s Shared,
 }
 
-/// Runs scripts as `run_threads` does, with meshers and workers that stop at these limits, and also returns what each
-/// of them did.
+/// Runs scripts as `run_threads` does, with meshers and workers that stop at `limits`. Also returns what each mesher
+/// and each worker did.
 ///
-/// `run_threads` sets no limits, and `run_abandoned` sets both. A mesher that wasn't stopped by its limit of calls made
-/// all rounds of the plan. A worker's entries are its whole script, or the worker gave up its next command after the
-/// number of attempts that the limit allows.
+/// `run_threads` sets no limits, and `run_abandoned` sets both. If a mesher wasn't stopped by its limit of calls, it
+/// made all rounds of the plan. A worker's entries are its whole script, unless it gave up a command after the number
+/// of attempts that the limit allows. In that case the entries are the commands before that command.
 pub fn run_within<R: Threads + Wait + Sync, G: Gate + Sync>(
     rt: &R,
     alloc: Global,
@@ -155,7 +155,8 @@ pub fn run_within<R: Threads + Wait + Sync, G: Gate + Sync>(
     })
 }
 
-/// Returns the result of a run. The run must be one of this plan within these limits.
+/// Returns `ran.ended`: the heap, the root cells and the history. `ran` must be a run of these scripts and this plan
+/// within these limits.
 fn ended_of(ran: Ran, scripts: &[&[Command]], plan: &MeshPlan, limits: Limits) -> Ended
     requires meshed { AreMeshed plan.now limits.calls ran.meshers.items }
     requires worked { AreWorked limits.tries
@@ -165,7 +166,7 @@ fn ended_of(ran: Ran, scripts: &[&[Command]], plan: &MeshPlan, limits: Limits) -
     ran.ended
 }
 
-/// Returns the number of commands of each script.
+/// Returns the number of commands in each script. The only error is an allocation failure.
 fn counts_of(alloc: Global, scripts: &[&[Command]]) -> Result<Vec<usize>, AllocError>
     ensures { IfOk result (λ counts. vec_len counts ≡ length scripts.now) }
 {
@@ -176,8 +177,8 @@ fn counts_of(alloc: Global, scripts: &[&[Command]]) -> Result<Vec<usize>, AllocE
     Ok(counts)
 }
 
-/// Serves each script from its seat, and meshes meanwhile. Once all threads have ended, returns the seats, and what
-/// each mesher and each worker did.
+/// Makes the calls of each script in a thread, with the script's seat, while meshers mesh by the plan. Once all threads
+/// have ended, returns the seats, and what each mesher and each worker did.
 fn serve_all<R: Threads + Wait + Sync, G: Gate + Sync>(
     context: RunContext<'_, R, G>,
     seats: Vec<Seat>,
@@ -237,8 +238,8 @@ fn serve_all<R: Threads + Wait + Sync, G: Gate + Sync>(
     )
 }
 
-/// Starts a thread for each seat, which serves the seat's script. Stops at the first thread that couldn't be started,
-/// and returns the reason. Returns `None` if all threads were started.
+/// Starts a thread for each seat, which makes the calls of the seat's script. If a thread can't be started, starts no
+/// further thread and returns the reason. Returns `None` if all threads were started.
 fn start_workers<'s, E, R: Threads + Wait + Sync, G: Gate + Sync>(
     scope: &'s Scope<'s, E>,
     context: RunContext<'s, R, G>,
@@ -273,8 +274,8 @@ fn start_workers<'s, E, R: Threads + Wait + Sync, G: Gate + Sync>(
     None
 }
 
-/// Starts a thread for each mesher. Returns why the last thread that couldn't be started failed, or `None` if all were
-/// started.
+/// Starts a thread for each mesher. If threads can't be started, returns the reason of the last failure. Returns `None`
+/// if all threads were started.
 fn start_meshers<'s, E, R: Threads + Wait + Sync, G: Gate + Sync>(
     scope: &'s Scope<'s, E>,
     context: RunContext<'s, R, G>,

@@ -14,7 +14,7 @@ use std::thread::Promise;
 /// How a worker's script ended in a run.
 #[derive(Clone, Copy)]
 pub struct Worked {
-    /// The number of attempts that the worker made at the command that it gave up, or 0 if it gave up none.
+    /// The number of attempts at the command that the worker gave up, or 0 if it gave up no command.
     pub tried: u32,
 }
 
@@ -23,14 +23,15 @@ pub struct Worked {
 pub(crate) struct Served {
     /// The seat, with the calls that were answered.
     pub seat: Seat,
-    /// The way in which the script ended.
+    /// How the script ended.
     pub worked: Worked,
-    /// Why the worker ended before its script did. `None` if its script ended, or if it gave up a blocked command.
+    /// The reason why the worker was stopped before its script ended. `None` if the script ended, or if the worker gave
+    /// up a blocked command.
     pub stop: Option<EarlyExit>,
 }
 
-/// The promise of a worker: the commands of its seat's calls are a prefix of its script. They are the whole script if
-/// nothing stopped the worker and it gave up no command.
+/// The promise of a worker's thread about its result: the commands of the seat's calls are a prefix of the script. They
+/// are the whole script if the worker was neither stopped nor gave up a command.
 #[derive(Clone, Copy)]
 pub(crate) struct Works<'a> {
     pub script: &'a [Command],
@@ -41,8 +42,8 @@ impl<'a> Promise<Served> for Works<'a> {
     ghost kept_by = { λ p served. HasWorked p.tries p.script.now served.seat.calls served.worked.tried served.stop };
 }
 
-/// Serves a script from a seat without calls, one command after another. Each command is retried while it is `Blocked`,
-/// as long as tries are left.
+/// Makes the calls of a script, one after another, and records them in `seat`, which must be empty. While a command is
+/// `Blocked`, it is retried, at most `tries` times in all. Ends at a command that stays blocked, and at a stop.
 pub(crate) fn serve<R: Wait, G: Gate>(
     rt: &R,
     gate: &G,
@@ -60,7 +61,8 @@ pub(crate) fn serve<R: Wait, G: Gate>(
     Served { seat, worked, stop }
 }
 
-/// Makes the calls of a script. Returns how the script ended, and, if the worker stopped before the script's end, why.
+/// Makes the calls of a script. Returns how the script ended. If a full journal or an allocation failure stopped the
+/// worker, also returns this stop.
 fn work<R: Wait, G: Gate>(
     rt: &R,
     gate: &G,

@@ -22,22 +22,25 @@ pub fn copies_have_effects()
     ensures alone { CopyLeavesPages }
 {}
 
-/// The formula for the read-only pages gives the same pages as the effects of the steps, applied to the page map one
-/// after another. The steps protect no other page.
+/// If the formula `is_protected` gives the read-only pages of a mesh's source before a step, the formula gives them
+/// after the step too. This requires that the source's virtual pages are all different. No step of a mesh changes the
+/// protection of a page outside the source.
 pub fn effects_are_by_formula()
     ensures steps { StepsProtect }
     ensures unwinding { UnwindingProtects }
     ensures others { OthersKeepProtection }
 {}
 
-/// A step changes page map and free pages at one page only.
+/// A protect, an unprotect and a remap each change the page map at one virtual page only. A release frees one physical
+/// page, and changes no other.
 pub fn pages_change_alone()
     ensures protection { ProtectionIsOfOne }
     ensures lead { LeadIsOfOne }
     ensures free { FreeIsOfOne }
 {}
 
-/// A copied byte equals the byte at the same offset of the source, and all other bytes are unchanged.
+/// A copy writes the byte at each copied offset of the source's span to this offset of the destination's span. This
+/// requires that no two copied offsets have one place in the destination's span. The copy changes no other byte.
 pub fn copied_bytes_are_the_same()
     ensures copied { CopiedAreTheSame }
     ensures others { OtherBytesStay }

@@ -1,7 +1,7 @@
-//! The heap without its bytes: the table, the steps of a mesh, the places of addresses, and what a heap means.
+//! The heap without its bytes: the table, the steps of a mesh, the places of addresses, and the meaning of a heap.
 //!
-//! The crate contains definitions and what is proved of them alone, one topic per file. The only other code is
-//! `Occupant`, which is how every owner of a table stores the object in a slot.
+//! The crate contains definitions and lemmas about these definitions, one topic per file. The only other code is the
+//! type `Occupant`: each type that contains a table stores the object in a slot as an `Occupant`.
 #![tactic(auto)]
 
 pub mod effect_laws;

@@ -1,43 +1,45 @@
-//! Laws of what a heap means under a read, a store, a free and a new object. Each is the contract of a function that
-//! does nothing.
+//! Laws of the memory that a heap means, under a read, a store, a free and a new object. Each law is the contract of a
+//! function that does nothing.
 ghost use Rattle.model_heap.specs.MeaningLaws.{MeaningHasNext, MeaningHasObjects, SameBytesSameMeaning, StoreChangesMeaning, FreeChangesMeaning, NewChangesMeaning, ReadGivesBytes, ByteIsAtItsPlace, LiveObjectsAreApart, HolderIsOne, NoneIsHolder, SlotIsTheOnlyOne, TiedRecordsAreBelow, SlotHasRecord, RecordHasSlot};
 
-/// The memory that a heap means has the heap's next serial and, for each serial, the object of that serial's record.
+/// The memory that a heap means has the heap's next serial. If the serials of all records are below the next serial,
+/// the memory contains the object of each serial's record, and no other object.
 pub fn meaning_has_objects()
     ensures next { MeaningHasNext }
     ensures objects { MeaningHasObjects }
 {}
 
-/// If the records and their bytes are unchanged, the memory that the heap means is unchanged, wherever the bytes are
-/// stored.
+/// If no serial's record changes, and no byte of a recorded object changes, the memory that the heap means doesn't
+/// change. The bytes may be stored at other places than before.
 pub fn meaning_stays_with_bytes()
     ensures { SameBytesSameMeaning }
 {}
 
-/// If bytes are stored at the places of an object's addresses, they are stored in that object of the memory that the
-/// heap means.
+/// If bytes are written at the places of a part of one object, and no other byte of a live object changes, the heap
+/// means its memory before with these bytes stored in that object.
 pub fn store_changes_meaning()
     ensures { StoreChangesMeaning }
 {}
 
-/// If an object is removed from the table, it is freed in the memory that the heap means.
+/// If an object is removed from the table, the heap means its memory before without that object.
 pub fn free_changes_meaning()
     ensures { FreeChangesMeaning }
 {}
 
-/// A heap that places an object of zeros in its table, and changes no byte of a live object, then means the memory it
-/// meant before with that object added.
+/// If an object of zeros is placed in a sound table, and no byte of a live object changes, the heap means its memory
+/// before with that object added.
 pub fn new_changes_meaning()
     ensures { NewChangesMeaning }
 {}
 
-/// The bytes of an object are those at the places of its addresses.
+/// The bytes of an object are the bytes at the places of the object's addresses.
 pub fn reads_give_bytes()
     ensures range { ReadGivesBytes }
     ensures byte { ByteIsAtItsPlace }
 {}
 
-/// No two live objects have an address in common, so an address has one holder at most.
+/// If a memory is tied to a sound table, no two live objects have an address in common. In that case, the holder of a
+/// live object's address is this object. An address that is in no live object has no holder.
 pub fn live_objects_are_apart()
     ensures apart { LiveObjectsAreApart }
     ensures holder { HolderIsOne }
@@ -49,7 +51,8 @@ pub fn slots_are_only_ones()
     ensures { SlotIsTheOnlyOne }
 {}
 
-/// The records of a table are those of its filled slots, and their serials are below the next serial.
+/// If a sound table is tied to the memory that its heap means, each filled slot has the record of the slot's serial,
+/// and all serials of records are below the next serial. In a sound table, each record is the record of a filled slot.
 pub fn records_are_of_slots()
     ensures below { TiedRecordsAreBelow }
     ensures slot { SlotHasRecord }

@@ -9,7 +9,7 @@ pub fn begin_answers_all_steps()
 {}
 
 /// A step of a class lowers the number of steps left in the class's mesh by one. The numbers of the other classes don't
-/// change. The mesh is over when no step is left.
+/// change. The step ends the mesh if and only if no step is left.
 pub fn steps_count_down()
     ensures one { StepTakesOne }
     ensures last { LastStepEnds }
@@ -17,20 +17,22 @@ pub fn steps_count_down()
     ensures many { StepsCountDown }
 {}
 
-/// A cancel returns the number of steps that are left. The mesh is over if no step is left.
+/// A cancel returns the number of steps left after the cancel. The cancel ends the mesh if and only if no step is left.
 pub fn cancel_answers_left()
     ensures left { CancelAnswersLeft }
     ensures none { CancelOfNoneEnds }
 {}
 
-/// A whole mesh is `begin` and all steps of its class, even if meshes of other classes are running.
+/// A whole mesh gives the same table as `begin` followed by all steps of the mesh's class, even if meshes of other
+/// classes are running.
 pub fn whole_mesh_is_all_steps_of_its_class()
     ensures tested { WholeIsAllStepsOfClass }
     ensures any { WholeIsAllStepsAlone }
     ensures of_class { WholeIsAllStepsBeside }
 {}
 
-/// At most one mesh runs per class, whatever the mesher does.
+/// In a sound table, at most one mesh of each class is running. This is also true after `begin`, a whole mesh, a step
+/// and a cancel.
 pub fn at_most_one_a_class()
     ensures sound { SoundHasOneAClass }
     ensures begin { BeginKeepsOneAClass }
@@ -39,14 +41,16 @@ pub fn at_most_one_a_class()
     ensures cancel { CancelKeepsOneAClass }
 {}
 
-/// The mesh of a class is a running mesh of that class. There is such a mesh if and only if one is running.
+/// If `mesh_in` returns a mesh for a class, the mesh is a running mesh of that class. `mesh_in` returns a mesh if and
+/// only if `mesh_of_class` is true for the class.
 pub fn mesh_of_class_is_found()
     ensures is { MeshInIsOfClass }
     ensures some { ClassHasMesh }
 {}
 
-/// A step of a class is refused only if no mesh of the class runs. A cancel is refused only if no mesh of the class
-/// runs or the mesh has remapped a page.
+/// A step of a class is refused if and only if no mesh of the class is running, with NO_MESH. A cancel is refused with
+/// NO_MESH in the same case. It is refused with TOO_LATE if and only if the class's running mesh has remapped a page. A
+/// cancel has no other refusal.
 pub fn steps_and_cancels_are_refused()
     ensures step { StepIsRefusedWithoutMesh }
     ensures none { CancelIsRefusedWithoutMesh }
@@ -54,13 +58,13 @@ pub fn steps_and_cancels_are_refused()
     ensures only { CancelHasTwoRefusals }
 {}
 
-/// A whole mesh is `begin` and all its steps.
+/// If no other mesh is running, a whole mesh gives the same table as `begin` followed by all steps of the mesh.
 pub fn whole_mesh_is_all_steps()
     ensures { WholeIsAllSteps }
 {}
 
-/// Until its last release, a mesh changes no group, and so no address and no slot of an object. A cancelled mesh
-/// changes none to its end.
+/// Only the last step of a mesh changes a group. So no earlier step changes the address or the slot of an object. A
+/// cancel and an unprotect of a cancelled mesh change neither the groups nor the number of free pages.
 pub fn meshing_leaves_groups()
     ensures steps { StepsLeaveGroups }
     ensures unwinding { UnwindingLeavesGroups }

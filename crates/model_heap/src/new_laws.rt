@@ -1,9 +1,9 @@
-//! Laws of new objects: which group and which slot a new object goes to. Each is the contract of a function that does
-//! nothing.
+//! Laws of new objects: in which group and in which slot a new object is placed. Each law is the contract of a function
+//! that does nothing.
 ghost use Rattle.model_heap.specs.NewLaws.{RefusedByAddresses, NewTakesLowestOpen, NewTakesSpan};
 
-/// A new object goes to the lowest open group of its class, and there to the free slot that the word selects. It goes
-/// to a new span if and only if no group of its class is open.
+/// A new object is placed in the lowest open group of its class, in the free slot that the word picks. It is placed in
+/// a new span if and only if no group of its class is open.
 pub fn new_takes_lowest()
     ensures group { NewTakesLowestOpen }
     ensures span { NewTakesSpan }

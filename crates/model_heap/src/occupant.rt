@@ -1,10 +1,10 @@
 //! `Occupant`, the object in a slot.
 use std::marker::Model;
 
-/// An object in a slot: the first virtual page of the member that its address is in, its serial and its length.
+/// An object in a slot: the member that contains the object's address, the object's serial and its length.
 #[derive(Clone, Copy, PartialEq, Eq)]
 pub struct Occupant {
-    /// The first virtual page of the member.
+    /// The first virtual page of the member that contains the object's address.
     pub member: u32,
     /// The object's serial.
     pub serial: u32,

@@ -1,14 +1,15 @@
-//! Laws of places, and examples of what a heap means. Each is the contract of a function that does nothing.
+//! Laws of places, and examples of the memory that a heap means. Each law is the contract of a function that does
+//! nothing.
 ghost use Rattle.model_heap.specs.PlaceLaws.{PlacesAreByPage, NoObjectMeansNone, ObjectsMeanTheirBytes, SlotsHaveRecords, ObjectsAreHeld, HoldsWhereLed, ProtectionLeavesPlaces};
 
-/// The place of an address is the physical page to which its virtual page is mapped, with the address's offset in its
-/// page.
+/// The place of an address is the physical page that the address's virtual page is mapped to, and the address's offset
+/// in that page.
 pub fn places_are_by_page()
     ensures { PlacesAreByPage }
 {}
 
-/// A heap means a memory with the objects of its filled slots: their addresses, and the bytes at the places of these
-/// addresses. A page holds the objects that have a byte there.
+/// Examples: a heap means a memory with the objects of its filled slots. Each object has its address, and the bytes at
+/// the places of its addresses. A physical page holds an object if and only if the object has a byte in the page.
 pub fn heaps_mean_their_objects()
     ensures none { NoObjectMeansNone }
     ensures bytes { ObjectsMeanTheirBytes }

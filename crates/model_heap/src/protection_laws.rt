@@ -1,8 +1,9 @@
-//! Laws of read-only pages: which the steps of a mesh protect, and which stores they block. Each is the contract of a
-//! function that does nothing.
+//! Laws of read-only pages: which pages the steps of a mesh protect, and which stores these pages block. Each law is
+//! the contract of a function that does nothing.
 ghost use Rattle.model_heap.specs.ProtectionLaws.{StartsWritable, ProtectsNext, HoldsWhileCopying, UnprotectsNext, ReleasesWritable, CancelHolds, UnwindsNext, UnwoundIsWritable, ReadOnlyByMeshes, BlockedByPages};
 
-/// How each step of a mesh, and a cancel, changes which pages are read-only.
+/// No page is read-only before the first step or after the last unprotect. A protect makes one page read-only, and an
+/// unprotect makes one page writable, in the order of the protects. Copies, remaps and a cancel change no protection.
 pub fn read_only_by_steps()
     ensures starts { StartsWritable }
     ensures protects { ProtectsNext }
@@ -14,8 +15,8 @@ pub fn read_only_by_steps()
     ensures unwound { UnwoundIsWritable }
 {}
 
-/// The read-only pages are those of the sources of all running meshes. A store is blocked if and only if it touches a
-/// read-only page.
+/// A virtual page is read-only if and only if it is in the source of a running mesh, and the mesh's progress says that
+/// it is protected. A store is blocked if and only if one of its addresses is in a read-only page.
 pub fn stores_are_blocked_by_pages()
     ensures pages { ReadOnlyByMeshes }
     ensures blocked { BlockedByPages }

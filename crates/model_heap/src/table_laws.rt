@@ -22,12 +22,12 @@ pub fn begin_keeps_sound()
     ensures whole { WholeKeepsSound }
 {}
 
-/// A cancel keeps the table sound, for any mesh.
+/// A cancel of any running mesh keeps the table sound.
 pub fn cancel_keeps_sound()
     ensures { CancelKeepsSound }
 {}
 
-/// A step keeps the table sound, for any mesh.
+/// A step of any running mesh keeps the table sound.
 pub fn step_keeps_sound()
     ensures { StepKeepsSound }
 {}
@@ -38,7 +38,7 @@ pub fn new_keeps_sound()
     ensures span { SpanKeepsSound }
 {}
 
-/// Each group of a sound table is sound, and no virtual page occurs in it twice or in another group.
+/// Each group of a sound table is sound. No virtual page occurs twice in a group, or in two groups.
 pub fn groups_are_sound()
     ensures found { GroupsAreSound }
     ensures once { PageIsOnceInGroup }
@@ -57,14 +57,15 @@ pub fn new_has_length()
     ensures { NewHasLength }
 {}
 
-/// A new object overlaps no object of the table. If table and memory are tied, its range is vacant.
+/// A new object overlaps no object of the table. If table and memory are tied, no live object of the memory has an
+/// address in the new object's range.
 pub fn new_is_apart()
     ensures slots { NewIsApart }
     ensures vacant { NewIsVacant }
 {}
 
-/// Each of the two tests for a running mesh (of any class, and of one class) is a busy test: if the test is false for a
-/// class, no mesh of that class is running.
+/// `any_mesh` and `mesh_of_class` are tests of busy classes: if one of these tests is false for a class, no mesh of
+/// that class is running.
 pub fn busy_tests()
     ensures any { AnyTellsBusy }
     ensures of_class { ClassTellsBusy }

@@ -12,12 +12,12 @@ pub fn begin_keeps_tied()
     ensures whole { WholeKeepsTied }
 {}
 
-/// A cancel keeps table and memory tied, for any mesh.
+/// A cancel of any running mesh keeps table and memory tied.
 pub fn cancel_keeps_tied()
     ensures { CancelKeepsTied }
 {}
 
-/// A step keeps the memory tied to a sound table, for any mesh.
+/// A step of any running mesh keeps the memory tied to a sound table.
 pub fn step_keeps_tied()
     ensures { StepKeepsTied }
 {}

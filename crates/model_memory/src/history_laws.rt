@@ -1,7 +1,8 @@
-//! Laws of legal histories. Each is the contract of a function that does nothing.
+//! Laws of legal histories. Each law is the contract of a function that does nothing.
 ghost use Rattle.model_memory.specs.HistoryLaws.{LegalGoesOn, LegalHasOneEnd};
 
-/// A legal history followed by a reference step is a legal history. The memory after a legal history is unique.
+/// If a reference step starts from the memory after a legal history, the history with the step's entry appended is
+/// legal. A legal history has only one final memory.
 pub fn legal_histories()
     ensures goes_on { LegalGoesOn }
     ensures one_end { LegalHasOneEnd }

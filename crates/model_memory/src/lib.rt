@@ -1,7 +1,7 @@
-//! The reference memory of separate objects: its steps, its legal histories, and the calls and reads that seats keep.
+//! The reference memory of separate objects: steps, legal histories, and the calls and reads that seats record.
 //!
-//! The code calls the reference memory plain memory. The crate has only definitions and lemmas about these definitions
-//! alone, one topic per file.
+//! The code calls the reference memory plain memory. The crate contains only definitions, and lemmas about these
+//! definitions. Each file has one topic.
 #![tactic(auto)]
 
 pub mod address_laws;

@@ -1,19 +1,23 @@
-//! Laws of reads that are in no journal. Each is the contract of a function that does nothing.
+//! Laws of reads that the journal doesn't record, and of the history that is built from the journal and these reads.
+//! Each law is the contract of a function that does nothing.
 ghost use Rattle.model_memory.specs.ReadLaws.{BuiltIsLegal, BuiltHasCalls, BuiltHasNoOther, ReadsDifferOnce, RightDifferNowhere, FewAreMade, LowerSeatFirst, PlacesOfReads, RecordedDiffers, StrangeEntryDiffers, StrangeReadDiffers, ThreeEntries};
 
-/// The history that is built from a legal journal and right reads is legal. Its final memory is that of the journal.
+/// If a journal is legal, the recorded calls of the seats are its entries, and all reads of the seats are right, the
+/// history built from the journal and the reads is legal. The built history's final memory is the journal's final
+/// memory.
 pub fn built_is_legal()
     ensures { BuiltIsLegal }
 {}
 
-/// In the history that is built from a journal and reads, each worker's entries are its seat's calls, and there are no
-/// other entries.
+/// If a journal is legal, the recorded calls of the seats are its entries, and all reads of the seats are right, each
+/// worker's entries in the built history are its seat's calls, in order. If each worker with an entry in the journal
+/// has a seat, each worker with an entry in the built history has a seat.
 pub fn built_has_calls()
     ensures calls { BuiltHasCalls }
     ensures no_other { BuiltHasNoOther }
 {}
 
-/// At most one read is reported as the first wrong read. If all reads are right, none is reported.
+/// At most one read is reported as the first wrong read. If all reads are right, no read is reported.
 pub fn reads_differ_once()
     ensures right { RightDifferNowhere }
     ensures once { ReadsDifferOnce }
@@ -24,7 +28,8 @@ pub fn few_are_made()
     ensures { FewAreMade }
 {}
 
-/// Examples: seats of two books, and reads that are in place and out of place.
+/// Examples. A seat with a call of another book differs from the journal. A seat also differs if it lacks a call that
+/// the journal records. The other examples are two built histories, and reads that are in place and out of place.
 pub fn reads_are_told()
     ensures strange { StrangeReadDiffers }
     ensures recorded { RecordedDiffers }

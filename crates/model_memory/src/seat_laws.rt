@@ -1,29 +1,29 @@
-//! Laws of seats: which seat is missing, and at which call a seat differs first. Each is the contract of a function
-//! that does nothing.
+//! Laws of seats: which seat is reported as missing, and at which call a seat first differs from the entries. Each law
+//! is the contract of a function that does nothing.
 ghost use Rattle.model_memory.specs.SeatLaws.{CallsHaveCommands, SeatsAreAll, SwappedSeatsAreMissing, StrangersAreMissing, EntriesHaveSeats, FirstDifferenceIsOne, MissingIsLeast, NoneIsMissing, SeatsDifferOnce, SettledDifferNowhere, SeatsSettleOrDiffer};
 
-/// The missing seat is the least place without its own seat. If each place has its own seat, the missing seat is the
-/// count if there is a stranger (a seat too many, or an entry of a worker without a seat). Otherwise no seat is
-/// missing.
+/// The missing seat is the lowest place below the count that doesn't have the seat with the place's number. If each
+/// place has its own seat, but there is a stranger, the count is the missing seat. A stranger is a seat too many, or an
+/// entry of a worker without a seat. In all other cases no seat is missing.
 pub fn missing_seat_is_least()
     ensures some { MissingIsLeast }
     ensures none { NoneIsMissing }
 {}
 
-/// Either all seats are settled, or there is exactly one call of one seat that is the first to differ.
+/// Either all seats are settled, or exactly one call of one seat is the first that differs from the entries.
 pub fn seats_settle_or_differ()
     ensures either { SeatsSettleOrDiffer }
     ensures settled { SettledDifferNowhere }
     ensures once { SeatsDifferOnce }
 {}
 
-/// The commands of the calls that a worker's entries make are the worker's commands.
+/// The commands of a worker's calls (`calls_of`) are the commands of the worker's entries (`commands_of`).
 pub fn calls_have_commands()
     ensures { CallsHaveCommands }
 {}
 
-/// Examples and a consequence of the missing seat. If no seat is missing, each place has its own seat and there is no
-/// stranger. Seats that are swapped, too few or too many are reported, and so is an entry of a worker without a seat.
+/// If no seat is missing, each place has its own seat and there is no stranger. Examples: a missing seat is reported if
+/// seats are swapped, too few or too many, or if there is an entry of a worker without a seat.
 pub fn missing_seats_are_told()
     ensures all { SeatsAreAll }
     ensures swapped { SwappedSeatsAreMissing }
@@ -31,7 +31,7 @@ pub fn missing_seats_are_told()
     ensures entries { EntriesHaveSeats }
 {}
 
-/// There is at most one place at which a seat's calls and its worker's entries differ first.
+/// Two lists of calls have at most one first difference.
 pub fn first_difference_is_one()
     ensures { FirstDifferenceIsOne }
 {}

@@ -1,11 +1,11 @@
-//! A run from a source to memory, and its outputs.
+//! The outputs of a run whose devices are in memory.
 ghost use Rattle.std.specs.Prelude.{◌≡◌, false};
 ghost use Rattle.mesh_run.specs.Runs.{IsSound};
 
 use mesh_run::{Devices, Output, Source};
 use std::alloc::Global;
 
-/// The devices of a run from a source to memory.
+/// The devices of a run: a source, and two outputs in memory.
 pub type InMemory<I> = Devices<I, Output<Vec<u8>>, Output<Vec<u8>>>;
 
 /// The outputs of one run of the program, and its exit status.
@@ -13,9 +13,9 @@ pub type InMemory<I> = Devices<I, Output<Vec<u8>>, Output<Vec<u8>>>;
 pub struct Ran {
     /// The exit status.
     pub status: u8,
-    /// What was written to standard output.
+    /// The bytes that were written to standard output.
     pub output: Vec<u8>,
-    /// What was written to standard error.
+    /// The bytes that were written to standard error.
     pub errors: Vec<u8>,
 }
 
@@ -35,7 +35,7 @@ impl Ran {
         }
     }
 
-    /// Whether the run wrote these texts and ended with this status.
+    /// Whether the run wrote exactly these texts and ended with this status.
     pub fn wrote(&self, output: &[u8], errors: &str, status: u8) -> bool {
         self.output.as_slice() == output
             && self.errors.as_slice() == errors.as_bytes()
@@ -43,7 +43,7 @@ impl Ran {
     }
 }
 
-/// Devices that read from this source, and write to memory.
+/// Returns devices that read from this source and write to memory.
 pub fn in_memory<I: Source>(alloc: Global, input: I) -> InMemory<I>
     requires { I.has_failed input ≡ false }
     ensures { IsSound result }

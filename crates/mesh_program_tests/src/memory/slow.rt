@@ -16,7 +16,7 @@ impl<'a> Bytes<'a> {
         Bytes { left }
     }
 
-    /// Writes the next byte into `buf`, if there is one and there is room for it. Returns how many bytes it wrote.
+    /// Writes the next byte into `buf`, if a byte is left and `buf` isn't empty. Returns the number of bytes written.
     pub fn give(&mut self, buf: &mut [u8]) -> usize
         ensures { result ≤ length buf.new }
     {
@@ -41,7 +41,7 @@ pub struct SlowSource<'a> {
 }
 
 impl<'a> SlowSource<'a> {
-    /// Returns a source of these bytes with `calls` calls.
+    /// Returns a source of these bytes that fails after `calls` calls.
     pub fn new(bytes: &'a [u8], calls: usize) -> SlowSource<'a>
         ensures { slow_has_failed result ≡ false }
     {

@@ -5,8 +5,8 @@ use std::alloc::{AllocError, Global};
 
 /// The separator between two rows of a table that is written as one text.
 ///
-/// Such a table is proved about as fast as one string. For an array of strings the proof time grows with the square of
-/// their number.
+/// A table in one text is proved about as fast as one string. For an array of strings the proof time grows with the
+/// square of the number of strings.
 pub const ROW_END: char = '#';
 
 /// Returns the first three fields of a row of a table. A missing field is empty.
@@ -19,7 +19,7 @@ pub fn fields(row: &str) -> (&str, &str, &str) {
     )
 }
 
-/// Faulty lines of bytes `a`: the number of bytes, whether a line end follows, and the kind of the line's fault.
+/// Faulty lines that consist of bytes `a`: the number of bytes, whether a line end follows, and the kind of the fault.
 pub static LENGTHS: [(usize, bool, &str); 5] = [
     (1024, false, "CUT"),
     (1024, true, "WORD"),
@@ -28,7 +28,7 @@ pub static LENGTHS: [(usize, bool, &str); 5] = [
     (40_000, true, "LONG_LINE"),
 ];
 
-/// Returns a text of `count` bytes `a`, followed by a line end if `has_end`.
+/// Returns a text of `count` bytes `a`, and of a line end if `has_end` is true.
 pub fn letters(alloc: Global, count: usize, has_end: bool) -> Result<Vec<u8>, AllocError> {
     let mut text = vec![in alloc; b'a'; count]?;
     if has_end {
@@ -37,8 +37,8 @@ pub fn letters(alloc: Global, count: usize, has_end: bool) -> Result<Vec<u8>, Al
     Ok(text)
 }
 
-/// Returns the table of the files that are no job. Each row has the name, the text and the line of the fault. Callers
-/// get the table from this function, so the prover unfolds it in one proof only.
+/// Returns the table of the files that are no jobs. Each row has the name, the text and the line of the fault. Tests
+/// get the table only from this function, so that it is part of one proof only.
 pub fn faulty_files() -> &'static str {
     FAULTS
 }

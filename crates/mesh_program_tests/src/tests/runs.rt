@@ -1,4 +1,4 @@
-//! Explorations, live sessions and scripts on threads; and command lines that start no run.
+//! Tests of explorations, live sessions, scripts on threads, and of command lines that start no run.
 
 mod explorations;
 mod live;

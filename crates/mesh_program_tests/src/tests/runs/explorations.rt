@@ -1,4 +1,4 @@
-//! Explorations in memory.
+//! Tests of explorations in memory.
 ghost use Rattle.std.specs.Prelude.{◌≡◌, false};
 
 use crate::memory::{Ran, SlowSource, in_memory};
@@ -6,18 +6,18 @@ use crate::tests::check;
 use mesh_run::{Args, Criteria, Input, Source, Unwatched, arguments, explore_run};
 use std::process::Abort;
 
-/// The words of a small exploration, of 64 states and two outcomes.
+/// The command line of a small exploration, which has 64 states and two outcomes.
 static STORE: [&str; 5] = ["meshrun", "explore", "a.job", "--mesh", "1:0"];
 
 /// The job file of the small exploration.
 const STORE_FILE: &str =
     "mesh 1\npages 16\nhistory 64\nworkers 2\nworker 0\nnew 0 2048 0\nnew 1 2048 0\nnew 2 2048 0\nnew 3 2048 0\nfree 0\nfree 3\nput 2 0 aa\nget 2 0 1\nworker 1\nget 2 0 1\nplan\nrun 0\nrun 0\nrun 0\nrun 0\nrun 0\nrun 0\nend\n";
 
-/// The job file that leads to the second outcome, as it is printed.
+/// The expected job file that leads to the second outcome of the small exploration.
 const SECOND: &str =
     "mesh 1\npages 16\nhistory 64\nworkers 2\nworker 0\nnew 0 2048 0\nnew 1 2048 0\nnew 2 2048 0\nnew 3 2048 0\nfree 0\nfree 3\nput 2 0 aa\nget 2 0 1\nworker 1\nget 2 0 1\nplan\nrun 0\nrun 0\nrun 0\nrun 0\nrun 0\nrun 0\nrun 1\nrun 0\nrun 0\nbegin 1 0\nstep\nstep\nstep\nstep\nstep\nstep\nend\n";
 
-/// The expected outcomes for a verdict: the outcomes of the small exploration.
+/// The outcomes of the small exploration, as the expected outcomes of a verdict.
 const LISTED: &str =
     "  worker 0: done | bytes aa\n  worker 1: bytes aa\n\n  worker 0: done | bytes aa\n  worker 1: bytes 00\n";
 
@@ -25,7 +25,7 @@ const LISTED: &str =
 const FORBIDDEN: &str =
     "never:\n  worker 0: done | bytes aa\n  worker 1: bytes 00\n  plan: run 1, run 0, run 0, begin 1 0, step, step, step, step, step, step\n";
 
-/// Explorations that end with one line: the further words of the command line, that line, and the exit status.
+/// Explorations that print one line: the further words of the command line, the expected line, and the exit status.
 static STOPS: [(&[&str], &str, u8); 8] = [
     (
         &["--states", "63"],

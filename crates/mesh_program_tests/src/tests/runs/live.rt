@@ -1,4 +1,4 @@
-//! A live session: lines are answered one by one.
+//! Tests of live sessions, in which lines are answered one by one.
 use crate::memory::{LENGTHS, fields, letters};
 use crate::tests::check_text;
 use mesh_live::{Sizes, live};
@@ -6,8 +6,8 @@ use mesh_run::{Input, Output};
 use std::process::Abort;
 use std::test::Fail;
 
-/// The plan of a worked example, with each command of its script at the place where the plan runs it, and with faults
-/// between the lines. Each line is followed by its answer.
+/// A session with the plan of a worked example. Each `run` line has the command that the plan runs there, and faulty
+/// lines are put between the lines. Each line is followed by its expected answer.
 static ASKED: &str = "\
 run 0 new 0 2048 0|object 0 at 1000\n\
 run 0 new 1 2048 0|object 1 at 1800\n\
@@ -58,7 +58,7 @@ step 1024|refused 15 NO_MESH\n\
 report|report objects 6 bytes 8192 mapped 4 taken 3 saved 1\n\
 run 0 get 0 0 1|refused 6 FREED";
 
-/// The sizes of the example's job.
+/// The sizes of the worked example's job.
 const SIZES: Sizes = Sizes {
     pages: 16,
     history: 64,
@@ -99,7 +99,7 @@ fn add_line(text: &mut Vec<u8>, line: &str) -> Result<(), Fail> {
     Ok(())
 }
 
-/// Asserts that a session with this input gives these answers.
+/// Asserts that a session with this input prints these answers.
 fn check_session(rt: &(impl Abort + AllocGlobal), asked: &[u8], answers: &[u8]) {
     let mut input = Input::new(asked);
     let mut output = Output::new(Vec::new(rt.alloc()));

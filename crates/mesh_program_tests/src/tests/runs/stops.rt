@@ -1,12 +1,12 @@
-//! Command lines that start no run, and what is printed for each.
+//! Tests of command lines that start no run, and of what each prints.
 use crate::memory::{ROW_END, fields};
 use crate::tests::check_text;
 use mesh_run::{Output, Stop, arguments, stop_run, unopened_run};
 use std::alloc::Global;
 use std::process::Abort;
 
-/// Command lines that ask for help or for the version, and the beginning of the text that each prints. Each row of the
-/// table is a command line and that text.
+/// Command lines that ask for help or for the version, in one text. Each row has a command line and the beginning of
+/// the text that is printed.
 static TOLD: &str = "\
 meshrun --help|A modelled heap#\
 meshrun --version|meshrun 0.1.0\n#\
@@ -17,7 +17,7 @@ meshrun live --help|Answer the lines#\
 meshrun explore --help|Run the commands that a job file's plan leaves#\
 meshrun check --help|Judge a recorded history";
 
-/// Command lines that start no run and print an error, in a table of the same form. Their exit status is 2.
+/// Command lines that start no run and print an error, in rows like those of the table above. Their exit status is 2.
 static REFUSED: &str = "\
 meshrun|A modelled heap#\
 meshrun replay|error: #\
@@ -38,8 +38,8 @@ fn stop_at(rt: &(impl Abort + AllocGlobal), line: &str) -> Stop {
     }
 }
 
-/// Whether a stop before a run ends with this status and prints a text that begins with `text`. With status 0 it must
-/// be on standard output, and otherwise on standard error. Nothing may be on the other one.
+/// Whether a stop has this status and prints a text that begins with `text`. With status 0 the text must be on standard
+/// output, otherwise on standard error. Nothing may be on the other output.
 fn stops_so(alloc: Global, stop: &Stop, status: u8, text: &str) -> bool {
     let mut output = Output::new(Vec::new(alloc));
     let mut errors = Output::new(Vec::new(alloc));

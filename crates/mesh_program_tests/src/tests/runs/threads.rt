@@ -1,4 +1,4 @@
-//! Runs of scripts on threads: a worked example, and the errors that stop a run before a thread is started.
+//! Tests of scripts on threads: a worked example, and errors that stop a run before a thread is started.
 ghost use Rattle.std.specs.Prelude.{◌≡◌, ◌≤◌, false};
 
 use crate::memory::{ROW_END, Ran, SlowSource, faulty_files, fields, in_memory};
@@ -12,7 +12,7 @@ use std::process::Abort;
 use std::sync::Wait;
 use std::thread::Threads;
 
-/// A job file of two workers with two commands each. These are one more in total than the history has entries.
+/// A job file of two workers with two commands each. Its history has room for three entries, one fewer than needed.
 const SHORT_FILE: &str =
     "mesh 1\npages 1\nhistory 3\nworkers 2\nworker 0\nnew 0 16 0\nfree 0\nworker 1\nnew 1 16 0\nfree 1\nplan\nend\n";
 
@@ -25,7 +25,7 @@ const FEWEST: ThreadsArgs = ThreadsArgs {
     meshers: 1,
 };
 
-/// Runs the scripts of a source, and prints each worker's answers.
+/// Runs the scripts of the job file that a source contains, and prints each worker's answers.
 fn ran<R: Threads + Wait + Sync + AllocGlobal, I: Source + Drop>(
     rt: &R,
     input: I,
@@ -71,8 +71,8 @@ fn tells_a_history_that_is_too_short(rt: HostRuntime) {
     check(&rt, goes, &run, "four commands");
 }
 
-/// The job file of a worker that makes three objects of half a page on a heap of one page, and after it the worker's
-/// answers.
+/// A job file of a worker that makes three objects of half a page on a heap of one page. `ONE_PAGE_LINES` has the
+/// expected answers, and `ONE_PAGE_HISTORY` the expected history.
 const ONE_PAGE_FILE: &str =
     "mesh 1\npages 1\nhistory 3\nworkers 1\nworker 0\nnew 0 2048 0\nnew 1 2048 0\nnew 2 2048 0\nplan\nend\n";
 
@@ -105,7 +105,7 @@ fn tells_a_failing_read_before_all_else(rt: HostRuntime) {
     }
 }
 
-/// Asserts that a run that stops with this error prints this line, with status 1.
+/// Asserts the line that a run prints if it stops with this error, and the status 1.
 fn check_line(rt: &(impl Abort + AllocGlobal), error: RunError, line: &'static str) {
     let mut errors = Output::new(Vec::new(rt.alloc()));
     let status = threads_stopped(&mut errors, ThreadsError::from(error));
@@ -123,7 +123,7 @@ fn tells_every_fault_of_the_end_as_a_run_fault(rt: HostRuntime) {
     check_line(&rt, RunError::Thread, "thread fault\n");
 }
 
-/// The number of cells of each of two workers, and after it the first cell of each.
+/// The number of cells of each of two workers. `FIRST_CELL` has the first cell of each worker.
 const CELLS: u32 = 40;
 
 const FIRST_CELL: [u32; 2] = [0, 128];
@@ -133,8 +133,8 @@ fn is_freed(cell: u32) -> bool {
     matches!(cell % 4, 0 | 3)
 }
 
-/// Adds a worker's script: it makes objects, stores their bytes, frees every other pair of them, and then loads from
-/// all cells and asks for their addresses.
+/// Adds a worker's script, which makes objects, stores their bytes, and frees every other pair of objects. Then it
+/// loads from all cells and asks for their addresses.
 fn add_script(rt: &impl Abort, file: &mut String, first: u32)
     requires { first ≤ 128 }
 {
@@ -159,7 +159,7 @@ fn add_script(rt: &impl Abort, file: &mut String, first: u32)
     }
 }
 
-/// Adds the lines of a worker's answers.
+/// Adds the expected lines of a worker's answers.
 fn add_answers(rt: &impl Abort, lines: &mut String, first: u32)
     requires { first ≤ 128 }
 {
@@ -181,7 +181,7 @@ fn add_answers(rt: &impl Abort, lines: &mut String, first: u32)
     }
 }
 
-/// Adds the line of a load of each cell's byte, or the line `freed` if the cell's object is freed.
+/// Adds the line of a load of each cell's byte, or the line of the refusal if the cell's object is freed.
 fn add_loads(rt: &impl Abort, lines: &mut String, first: u32, freed: &str)
     requires { first ≤ 128 }
 {
@@ -206,7 +206,7 @@ fn file_of_two(rt: &(impl Abort + AllocGlobal)) -> String {
     file
 }
 
-/// The lines of the two workers' answers.
+/// Returns the expected lines of the two workers' answers.
 fn answers_of_two(rt: &(impl Abort + AllocGlobal)) -> String {
     let mut answers = String::new(rt.alloc());
     for worker in 0..2 {
@@ -217,8 +217,8 @@ fn answers_of_two(rt: &(impl Abort + AllocGlobal)) -> String {
     answers
 }
 
-/// The numbers of searchers with which the two workers' scripts are run, and after them the numbers of meshers and the
-/// seeds.
+/// The numbers of searchers with which the two workers' scripts are run. `MESHERS` has the numbers of meshers, and
+/// `SEEDS` the seeds.
 static SEARCHERS: [u32; 3] = [1, 3, 16];
 
 static MESHERS: [u32; 3] = [1, 2, 10];
@@ -236,7 +236,7 @@ fn answers_do_not_depend_on_meshers(rt: HostRuntime) {
     }
 }
 
-/// Asserts that a file gives these answers with each of the seeds, for a number of searchers and meshers.
+/// Asserts that a job file has these answers with each of the seeds, for a number of searchers and meshers.
 fn check_seeds<R: Abort + Threads + Wait + Sync + AllocGlobal>(
     rt: &R,
     file: &str,
@@ -258,7 +258,7 @@ fn check_seeds<R: Abort + Threads + Wait + Sync + AllocGlobal>(
     }
 }
 
-/// Asserts that a file's run with these arguments gives these answers.
+/// Asserts that a run of a job file with these arguments prints these answers.
 fn check_answers<R: Abort + Threads + Wait + Sync + AllocGlobal>(
     rt: &R,
     file: &str,
@@ -269,7 +269,7 @@ fn check_answers<R: Abort + Threads + Wait + Sync + AllocGlobal>(
     check_run(rt, &run, answers, args);
 }
 
-/// Asserts that a run with these arguments wrote these answers and no error, and ended with status 0.
+/// Asserts that a run with these arguments printed these answers and no error, and ended with status 0.
 fn check_run(rt: &impl Abort, run: &Ran, answers: &str, args: &ThreadsArgs) {
     let ThreadsArgs {
         workers,

@@ -1,9 +1,9 @@
-//! The words of the shuffles, compared with a second implementation of the generator, written from its authors' papers
-//! in another language.
+//! Tests of the random words of shuffles. The expected words come from a second implementation of the generator, which
+//! was written from its authors' papers in another language.
 use mesh_run::words;
 use std::test::Fail;
 
-/// For each seed, the expected words and the places where they are.
+/// The expected words of each seed, with their places in the list of words.
 static EXPECTED: [(u64, &[(usize, u64)]); 3] = [
     (
         0,
