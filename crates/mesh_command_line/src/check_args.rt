@@ -4,7 +4,7 @@ ghost use Rattle.mesh_command_line.specs.CheckArgs.{IsInRange};
 /// The arguments of `check` other than its file. The type guarantees that `configurations` is in its range.
 #[derive(Clone, Copy, PartialEq, Eq)]
 pub struct CheckArgs {
-    /// The limit on the number of configurations of an object in a history of overlapping calls, 1 or more.
+    /// The greatest number of configurations of an object, 1 or more. It applies to a history of overlapping calls.
     pub configurations: u32,
     /// Whether an order of effects that explains the calls is printed instead of the verdict.
     pub is_ordered: bool,

@@ -1,4 +1,4 @@
-//! How the words of a command line are read.
+//! The reading of a command line's words.
 ghost use Rattle.std.specs.Prelude.{◌≡◌, ◌≢◌, ◌⊎◌, ◌≤◌, ◌<◌, ◌^◌, ℕ, List, None, Some, true, IfErr, IfOk, IfSome, codes, find, length, map, option_and_then, option_map};
 ghost use Rattle.std.specs.IoError.{error_kind};
 ghost use Rattle.std.specs.declared.io.ErrorKind.TheVariants.{OutOfMemory as IoOutOfMemory};
@@ -30,87 +30,87 @@ use std::borrow::CowStr;
 use std::convert::AsStr;
 use std::io;
 
-/// The name of the program if the command line has no words.
+/// The name of the program in usage lines, if the command line has no words.
 const PROGRAM: &str = "meshrun";
 
-/// The message about options of `explore` that exclude each other.
+/// The error message if options of `explore` exclude each other.
 const TOLD_TWICE: &str = "--witness, --show and a verdict (--expect, --never) exclude each other";
 
-/// The message about more than ten patterns.
+/// The error message if more than ten patterns are given.
 const MANY_PATTERNS: &str = "the argument '--never <PATTERN>' cannot be used more than 10 times";
 
-/// The message about more than ten meshes.
+/// The error message if more than ten meshes are given.
 const MANY_MESHES: &str = "the argument '--mesh <SRC:DST>' cannot be used more than 10 times";
 
-/// The message about options of `savings` that can't be combined.
+/// The error message if options of `savings` can't be combined.
 const UNREAD_SAVINGS: &str =
     "--seed and --first-fit exclude each other, and --from is at most --to";
 
 /// The separator between the two groups of a mesh, and between the line, the answer and the phase of `--show`.
 const BETWEEN: char = ':';
 
-/// The greatest group number.
+/// The greatest number of a group in an option.
 const LAST_GROUP: u64 = 65535;
 
-/// The greatest line number.
+/// The greatest number of a line in an option.
 const LAST_LINE: u64 = 4294967295;
 
-/// The default seed.
+/// The seed of the objects' words if neither a seed nor `--first-fit` is given.
 const SEED_NOT_GIVEN: u64 = 1;
 
 /// The version that `--version` prints.
 const VERSION: &str = "0.1.0";
 
-/// What the command line asks for.
+/// The request of a command line: the subcommand with its arguments.
 #[derive(Clone, Copy, PartialEq, Eq)]
 pub enum Args<'a> {
     /// `replay FILE`: replay the job file at this path, and print the answers.
     Replay(&'a str),
     /// `replay FILE --history`: replay the job file at this path, and print the journal as a recorded history.
     ReplayHistory(&'a str),
-    /// `threads FILE ..`: run the scripts of the job file at this path in threads, with these numbers, and print each
-    /// worker's answers.
+    /// `threads FILE ..`: run the scripts of the job file at this path in threads, and print each worker's answers.
     Threads(&'a str, ThreadsArgs),
-    /// `threads FILE .. --history`: run the scripts in the same way, and print the journal as a recorded history.
+    /// `threads FILE .. --history`: run the scripts of the job file at this path in threads, and print the journal as a
+    /// recorded history.
     ThreadsHistory(&'a str, ThreadsArgs),
-    /// `draw FILE ..`: draw the plan of the job file at this path, with these lines and columns.
+    /// `draw FILE ..`: draw the plan of the job file at this path, from one line to another.
     Draw(&'a str, DrawArgs),
-    /// `live ..`: answer the lines of standard input, on a heap of these sizes.
+    /// `live ..`: answer the lines of standard input, on a heap with these sizes.
     Live(LiveArgs),
-    /// `explore FILE --mesh SRC:DST ..`: explore what is left of the scripts of the job file at this path, with these
-    /// meshes and numbers.
+    /// `explore FILE --mesh SRC:DST ..`: explore the commands that the plan of the job file at this path leaves, with
+    /// these meshes.
     Explore(&'a str, ExploreArgs<'a>),
-    /// `check FILE ..`: judge the recorded history at this path, or that of standard input for `-`, with this number of
-    /// configurations.
+    /// `check FILE ..`: judge the recorded history at this path. The path `-` is standard input.
     Check(&'a str, CheckArgs),
-    /// `savings FILE ..`: follow the recorded history at this path, or that of standard input for `-`, and print what
-    /// meshing saves.
+    /// `savings FILE ..`: make the calls of the recorded history at this path, and print what meshing saves. The path
+    /// `-` is standard input.
     Savings(&'a str, SavingsArgs),
 }
 
-/// How the program ends if it starts no run: its exit status, and what it prints.
+/// The exit status and the text of a command line that runs no subcommand: of help, of the version, or of an error.
 #[derive(Drop)]
 pub struct Stop {
-    /// The exit status: 0 for help and for the version, 2 for a fault of the command line, 1 for an allocation failure.
+    /// The exit status: 0 for help and the version, 2 for an error in the command line, 1 for an allocation failure.
     pub status: u8,
-    /// What to print, with its line ends: help and version on standard output, the rest on standard error.
+    /// The text to print, with its line ends. Help and the version go to standard output, errors to standard error.
     pub text: CowStr<'static, Global>,
 }
 
-/// What a command line asks for, and the patterns of a verdict. The patterns are a separate field because no variant of
-/// an enum may hold them.
+/// The request of a command line, and the patterns of its verdict. The patterns are a separate field because no variant
+/// of an enum may contain them.
 #[derive(Clone, Copy)]
 pub struct Parsed<'a> {
     pub args: Args<'a>,
-    /// The patterns that no outcome of an exploration may match. Empty if no verdict is asked for.
+    /// The patterns that no outcome of an exploration may match. The list is empty if no pattern is given.
     pub never: Patterns<'a>,
 }
 
-/// Reads what the words of a command line ask for. The first word is the program's name.
+/// Reads the words of a command line. The first word is the program's name. Returns the request, or the reason why the
+/// program runs no subcommand.
 ///
-/// The words are read by `clap`, which writes the texts of help, version and faults. The file is the word as it was
-/// given. A number is what `clap` reads as a `u64`: decimal digits, with an optional plus before them. A mesh is two
-/// such numbers with a colon between them.
+/// The words are read by `clap`, which also writes the texts of help, version and errors. The file is the word that was
+/// given, unchanged. A number is in the form that `clap` reads as a `u64`: decimal digits, with an optional plus before
+/// them. A mesh is two such numbers with a colon between them.
 pub fn arguments<'a, S: AsStr>(alloc: Global, words: &'a [S]) -> Result<Parsed<'a>, Stop>
     ensures asked { IfOk result (IsAsked (map S.text words.now)) }
     ensures stop { IfErr result (IsStopAt (map S.text words.now)) }
@@ -124,8 +124,8 @@ pub fn arguments<'a, S: AsStr>(alloc: Global, words: &'a [S]) -> Result<Parsed<'
     }
 }
 
-/// Returns what the words ask for, or the error of `clap`. An error for options that `clap` accepts and the program
-/// doesn't has the form of those of `clap`.
+/// Returns the request of the words, or the error. If `clap` accepts the options but the program doesn't, the error has
+/// the form of an error of `clap`.
 fn read_words<'a, S: AsStr>(alloc: Global, words: &'a [S]) -> Result<Parsed<'a>, Error>
     ensures asked { IfOk result (IsAsked (map S.text words.now)) }
     ensures kinds { IfErr result (λ error. IsSaidOf (map S.text words.now) (kind_of error)) }
@@ -135,7 +135,8 @@ fn read_words<'a, S: AsStr>(alloc: Global, words: &'a [S]) -> Result<Parsed<'a>,
     read_by(alloc, &mut command, words)
 }
 
-/// Does the same as `read_words`. `command` must be the program's command.
+/// Returns the request of the words, or the error, as `read_words` does. `command` must be the program's `clap`
+/// command.
 fn read_by<'a, S: AsStr>(
     alloc: Global,
     command: &mut Command<'a>,
@@ -153,8 +154,8 @@ fn read_by<'a, S: AsStr>(
     }
 }
 
-/// Returns the name of the program for usage lines. As in those of `clap`, it is the last part of the path that is the
-/// first word.
+/// Returns the name of the program for usage lines. As in usage lines of `clap`, the first word is a path, and the name
+/// is the last part of this path. Without a first word, the name is `meshrun`.
 fn program_name<'a, S: AsStr>(words: &'a [S]) -> &'a str {
     let Some(word) = words.first() else {
         return PROGRAM;
@@ -166,7 +167,8 @@ fn program_name<'a, S: AsStr>(words: &'a [S]) -> &'a str {
     }
 }
 
-/// Returns the error for options of `explore` or `savings` that `clap` accepts and the program doesn't.
+/// Returns the error for options of `explore` or `savings` that `clap` accepts, but the program doesn't. The only error
+/// of the call itself is an allocation failure.
 fn unread<'a>(alloc: Global, program: &str, matches: &ArgMatches<'a>) -> Result<Error, AllocError>
     ensures { IfOk result (λ error. kind_of error ≡ ErrorKind.ValueValidation) }
 {
@@ -179,7 +181,7 @@ fn unread<'a>(alloc: Global, program: &str, matches: &ArgMatches<'a>) -> Result<
     }
 }
 
-/// Returns an error about a subcommand in the form of those of `clap`: the message, and the subcommand's usage.
+/// Returns an error about a subcommand: the message, and the subcommand's usage. It has the form of an error of `clap`.
 fn fault_of(
     alloc: Global,
     program: &str,
@@ -193,8 +195,8 @@ fn fault_of(
     command.error(ErrorKind::ValueValidation, message)
 }
 
-/// Returns the message about options of `explore` that the program doesn't accept: meshes or an answer that can't be
-/// read, more than ten patterns, or options that exclude each other.
+/// Returns the message about options of `explore` that the program doesn't accept. The reasons are meshes that can't be
+/// read or are too many, more than ten patterns, an answer that can't be read, and options that exclude each other.
 fn explore_fault<'a>(alloc: Global, matches: &ArgMatches<'a>) -> Result<String, AllocError> {
     if meshes(matches).is_none() {
         return mesh_fault(alloc, matches);
@@ -210,8 +212,8 @@ fn explore_fault<'a>(alloc: Global, matches: &ArgMatches<'a>) -> Result<String, 
     }
 }
 
-/// Returns the message about meshes that can't be read. It names the first word that is no pair of groups. If there is
-/// no such word, the message is that there are too many meshes.
+/// Returns the message about meshes that the program doesn't accept. The message names the first text that is no pair
+/// of groups. If each text is a pair of groups, the message is that there are too many meshes.
 fn mesh_fault<'a>(alloc: Global, matches: &ArgMatches<'a>) -> Result<String, AllocError> {
     let unread = match matches.get_strs(MESH) {
         Some(texts) => first_unread(texts),
@@ -225,7 +227,7 @@ fn mesh_fault<'a>(alloc: Global, matches: &ArgMatches<'a>) -> Result<String, All
     }
 }
 
-/// The matches of `clap` for the words.
+/// Returns the `clap` matches of the words, or the error of `clap`.
 fn matches_of<'a, S: AsStr>(
     command: &mut Command<'a>,
     words: &'a [S],
@@ -238,7 +240,7 @@ fn matches_of<'a, S: AsStr>(
     command.try_get_matches_from_mut(words)
 }
 
-/// Returns what the matches ask for, and the patterns. `None` if the program doesn't accept the matches.
+/// Returns the request in the matches, with its patterns. Returns `None` if the program doesn't accept the matches.
 fn asked_for<'a>(matches: &ArgMatches<'a>) -> Option<Parsed<'a>>
     ensures { option_map asking_of result ≡ asked_in (subcommand_rows_of matches.now) }
 {
@@ -248,7 +250,8 @@ fn asked_for<'a>(matches: &ArgMatches<'a>) -> Option<Parsed<'a>>
     Some(Parsed { args, never })
 }
 
-/// Returns what the subcommand with this name asks for, from its matches. `live` has no file.
+/// Returns the request of the subcommand `name` with these matches. Returns `None` if the program doesn't accept the
+/// matches. `live` is the only subcommand without a file.
 fn asked_by<'a>(name: &str, matches: &ArgMatches<'a>, never: &Patterns<'a>) -> Option<Args<'a>>
     ensures { option_map (asking (texts_of never.now)) result
         ≡ asked_with (texts_of never.now) name.now (rows_of (found_of matches.now)) }
@@ -259,7 +262,8 @@ fn asked_by<'a>(name: &str, matches: &ArgMatches<'a>, never: &Patterns<'a>) -> O
     }
 }
 
-/// Returns what a subcommand with a file asks for, from its name and its matches.
+/// Returns the request of the subcommand `name`, which has a file, with these matches. Returns `None` if there is no
+/// such subcommand, or the program doesn't accept the matches.
 fn asked_of<'a>(name: &str, matches: &ArgMatches<'a>, never: &Patterns<'a>) -> Option<Args<'a>>
     ensures { option_map (asking (texts_of never.now)) result
         ≡ option_and_then (asked_of (texts_of never.now) name.now (rows_of (found_of matches.now)))
@@ -277,14 +281,15 @@ fn asked_of<'a>(name: &str, matches: &ArgMatches<'a>, never: &Patterns<'a>) -> O
     }
 }
 
-/// Whether a recorded history is asked for.
+/// Whether a recorded history is asked for. Returns `None` if the subcommand has no such flag.
 fn is_recorded<'a>(matches: &ArgMatches<'a>) -> Option<bool>
     ensures { result ≡ is_recorded_in (rows_of (found_of matches.now)) }
 {
     is_given(matches, RECORDED)
 }
 
-/// Whether a flag is given. `clap` gives a flag the value `true` if it is given, and `false` otherwise.
+/// Whether a flag is given. `clap` sets the value of a flag to `true` if it is given, and to `false` otherwise. Returns
+/// `None` if the flag has no value.
 fn is_given<'a>(matches: &ArgMatches<'a>, flag: &str) -> Option<bool>
     ensures { result ≡ flag_in flag.now (rows_of (found_of matches.now)) }
 {
@@ -292,7 +297,8 @@ fn is_given<'a>(matches: &ArgMatches<'a>, flag: &str) -> Option<bool>
     Some(value == "true")
 }
 
-/// Returns the request for a replay of a file, which prints a recorded history or else the answers.
+/// Returns the request for a replay of a file. The replay prints a recorded history if `is_recorded` is true, and the
+/// answers otherwise.
 fn replay_of(file: &str, is_recorded: bool) -> Args<'_>
     ensures { (never : List (List ℕ)) → asking never result ≡ replay_by file.now is_recorded }
 {
@@ -303,7 +309,8 @@ fn replay_of(file: &str, is_recorded: bool) -> Args<'_>
     }
 }
 
-/// Returns the request for a run of a file's scripts in threads, which prints a recorded history or else the answers.
+/// Returns the request for a run of a file's scripts in threads. The run prints a recorded history if `is_recorded` is
+/// true, and the answers otherwise.
 fn threads_of(file: &str, args: ThreadsArgs, is_recorded: bool) -> Args<'_>
     ensures { (never : List (List ℕ)) → asking never result ≡ threads_by file.now (numbers_of args) is_recorded }
 {
@@ -314,7 +321,7 @@ fn threads_of(file: &str, args: ThreadsArgs, is_recorded: bool) -> Args<'_>
     }
 }
 
-/// The numbers of `threads`.
+/// Returns the arguments of `threads`, or `None` if a number isn't in its range.
 fn numbers<'a>(matches: &ArgMatches<'a>) -> Option<ThreadsArgs>
     ensures { option_map numbers_of result ≡ numbers_in (rows_of (found_of matches.now)) }
 {
@@ -327,7 +334,7 @@ fn numbers<'a>(matches: &ArgMatches<'a>) -> Option<ThreadsArgs>
     })
 }
 
-/// Returns which lines of a plan are drawn, and in how many columns.
+/// Returns the arguments of `draw`, or `None` if a number isn't in its range.
 fn shown<'a>(matches: &ArgMatches<'a>) -> Option<DrawArgs>
     ensures { option_map shown_of result ≡ shown_in (rows_of (found_of matches.now)) }
 {
@@ -338,7 +345,7 @@ fn shown<'a>(matches: &ArgMatches<'a>) -> Option<DrawArgs>
     })
 }
 
-/// Returns the arguments of `explore`: the meshes, the numbers, and what is printed.
+/// Returns the arguments of `explore`, or `None` if the program doesn't accept its options.
 fn explored<'a>(matches: &ArgMatches<'a>, never: &Patterns<'a>) -> Option<ExploreArgs<'a>>
     ensures { option_map (explored_of (texts_of never.now)) result
         ≡ explored_in (texts_of never.now) (rows_of (found_of matches.now)) }
@@ -352,8 +359,8 @@ fn explored<'a>(matches: &ArgMatches<'a>, never: &Patterns<'a>) -> Option<Explor
     })
 }
 
-/// Returns what an exploration prints. `None` if more than one of an outcome, an answer and a verdict is asked for, or
-/// if one can't be read.
+/// Returns the selection of what an exploration prints. Returns `None` if more than one of an outcome, an answer and a
+/// verdict is asked for, or if the outcome or the answer can't be read.
 fn told<'a>(matches: &ArgMatches<'a>, never: &Patterns<'a>) -> Option<Told<'a>>
     ensures { option_map (told_of (texts_of never.now)) result
         ≡ told_in (texts_of never.now) (rows_of (found_of matches.now)) }
@@ -364,15 +371,15 @@ fn told<'a>(matches: &ArgMatches<'a>, never: &Patterns<'a>) -> Option<Told<'a>>
     told_by(witness, shown, is_verdict(expect, never), expect)
 }
 
-/// Whether a verdict is asked for.
+/// Whether a verdict is asked for, by `--expect` or `--never`.
 fn is_verdict<'a>(expect: Option<&'a str>, never: &Patterns<'a>) -> bool
     ensures { result ≡ asks_verdict (option_map (λ path. path.now) expect.entry) (texts_of never.now) }
 {
     expect.is_some() || !never.as_slice().is_empty()
 }
 
-/// Returns what is printed for these options. `None` if more than one of an outcome, an answer and a verdict is asked
-/// for.
+/// Returns the selection of what an exploration prints. Returns `None` if more than one of an outcome, an answer and a
+/// verdict is asked for.
 fn told_by<'a>(
     witness: Option<u32>,
     shown: Option<ShownArgs<'a>>,
@@ -392,7 +399,8 @@ fn told_by<'a>(
     }
 }
 
-/// Returns the answer that `--show` names, or `Some(None)` without that option. `None` if its text can't be read.
+/// Returns the answer that `--show` names, or `Some(None)` if `--show` isn't given. Returns `None` if the text of
+/// `--show` can't be read.
 fn shown_if_given<'a>(matches: &ArgMatches<'a>) -> Option<Option<ShownArgs<'a>>>
     ensures { option_map (option_map shown_answer_of) result ≡ shown_given_in (rows_of (found_of matches.now)) }
 {
@@ -402,7 +410,8 @@ fn shown_if_given<'a>(matches: &ArgMatches<'a>) -> Option<Option<ShownArgs<'a>>>
     }
 }
 
-/// The answer that a text names: a line, an answer and a phase, with colons between them.
+/// Returns the answer that a text names: a line, an answer and a phase, with colons between them. Returns `None` if the
+/// text can't be read.
 fn shown_answer(text: &str) -> Option<ShownArgs<'_>>
     ensures { option_map shown_answer_of result ≡ shown_of_text text.now }
 {
@@ -419,7 +428,7 @@ fn shown_answer(text: &str) -> Option<ShownArgs<'_>>
     })
 }
 
-/// Returns the patterns that are given. `None` if there are more than ten.
+/// Returns the patterns that are given. Returns `None` if more than ten are given.
 fn never<'a>(matches: &ArgMatches<'a>) -> Option<Patterns<'a>>
     ensures { option_map texts_of result ≡ never_in (rows_of (found_of matches.now)) }
 {
@@ -432,7 +441,7 @@ fn never<'a>(matches: &ArgMatches<'a>) -> Option<Patterns<'a>>
     Some(patterns(texts))
 }
 
-/// The patterns of these texts.
+/// Returns a list of patterns with these texts.
 fn patterns<'a>(texts: &[&'a str]) -> Patterns<'a>
     requires { length texts.now ≤ 10 }
     ensures { texts_of result ≡ map (λ text. text.now) texts.now }
@@ -446,7 +455,7 @@ fn patterns<'a>(texts: &[&'a str]) -> Patterns<'a>
     patterns
 }
 
-/// Returns the arguments of `check`: how a history is judged, and what is printed.
+/// Returns the arguments of `check`, or `None` if the number of configurations isn't in its range.
 fn checked<'a>(matches: &ArgMatches<'a>) -> Option<CheckArgs>
     ensures { option_map checked_of result ≡ checked_in (rows_of (found_of matches.now)) }
 {
@@ -458,7 +467,8 @@ fn checked<'a>(matches: &ArgMatches<'a>) -> Option<CheckArgs>
     })
 }
 
-/// Returns the arguments of `savings`: how a history is followed, and what is printed.
+/// Returns the arguments of `savings`. Returns `None` if a number isn't in its range, if `--from` is greater than
+/// `--to`, or if both a seed and `--first-fit` are given.
 fn compared<'a>(matches: &ArgMatches<'a>) -> Option<SavingsArgs>
     ensures { option_map compared_of result ≡ compared_in (rows_of (found_of matches.now)) }
 {
@@ -481,8 +491,8 @@ fn compared<'a>(matches: &ArgMatches<'a>) -> Option<SavingsArgs>
     })
 }
 
-/// Returns the seed of the objects' words, or `Some(None)` if all words are to be 0. `None` if the options exclude each
-/// other or the seed can't be read.
+/// Returns the seed of the objects' words, which is 1 if none is given. Returns `Some(None)` if `--first-fit` sets all
+/// words to 0. Returns `None` if both a seed and `--first-fit` are given, or if the seed can't be read.
 fn seed<'a>(matches: &ArgMatches<'a>) -> Option<Option<u64>>
     ensures { result ≡ seed_in (rows_of (found_of matches.now)) }
 {
@@ -495,7 +505,8 @@ fn seed<'a>(matches: &ArgMatches<'a>) -> Option<Option<u64>>
     }
 }
 
-/// The meshes that are asked for: one to ten pairs of groups.
+/// Returns the meshes that are given: one to ten pairs of groups. Returns `None` if there are none or more than ten, or
+/// if one can't be read.
 fn meshes<'a>(matches: &ArgMatches<'a>) -> Option<Meshes>
     ensures value { option_map pairs_of result ≡ meshes_in (rows_of (found_of matches.now)) }
     ensures some { IfSome result (λ meshes. 1 ≤ meshes.count) }
@@ -507,7 +518,7 @@ fn meshes<'a>(matches: &ArgMatches<'a>) -> Option<Meshes>
     pairs(texts)
 }
 
-/// The pairs of groups that these texts spell.
+/// Returns the pairs of groups with these texts, or `None` if one of the texts is no pair of groups.
 fn pairs(texts: &[&str]) -> Option<Meshes>
     requires { length texts.now ≤ 10 }
     ensures pairs { option_map pairs_of result ≡ pairs_in (map (λ text. text.now) texts.now) }
@@ -522,7 +533,7 @@ fn pairs(texts: &[&str]) -> Option<Meshes>
     Some(meshes)
 }
 
-/// The first of these texts that is no pair of groups.
+/// Returns the first of these texts that is no pair of groups, or `None` if each is a pair of groups.
 fn first_unread<'t>(texts: &[&'t str]) -> Option<&'t str>
     ensures { option_map (λ text. text.now) result ≡ find is_no_pair (map (λ text. text.now) texts.now) }
 {
@@ -536,7 +547,8 @@ fn first_unread<'t>(texts: &[&'t str]) -> Option<&'t str>
     None
 }
 
-/// The pair of groups that a text spells: two numbers with a colon between them.
+/// Returns the pair of groups in a text: two numbers with a colon between them. Returns `None` if the text has another
+/// form.
 fn pair(text: &str) -> Option<MeshPair>
     ensures { result ≡ pair_of text.now }
 {
@@ -547,21 +559,24 @@ fn pair(text: &str) -> Option<MeshPair>
     })
 }
 
-/// Reads the number of a group, 0 to 65535, in the form of a number option of `clap`.
+/// Reads the number of a group, 0 to 65535, in the form of a number option of `clap`. Returns `None` if the text is no
+/// such number.
 fn group(text: &str) -> Option<u32>
     ensures { result ≡ group_of text.now }
 {
     spelt_number(text, 0, LAST_GROUP)
 }
 
-/// Reads the number of a line, 1 to 4294967295, in the form of a number option of `clap`.
+/// Reads the number of a line, 1 to 4294967295, in the form of a number option of `clap`. Returns `None` if the text is
+/// no such number.
 fn line_number(text: &str) -> Option<u32>
     ensures { result ≡ number_of 1 4294967295 text.now }
 {
     spelt_number(text, 1, LAST_LINE)
 }
 
-/// Reads a number from `least` to `most`, in the form of a number option of `clap`.
+/// Reads a number from `least` to `most`, in the form of a number option of `clap`. Returns `None` if the text is no
+/// such number.
 fn spelt_number(text: &str, least: u64, most: u64) -> Option<u32>
     requires { most < 2 ^ 32 }
     ensures { result ≡ number_of least most text.now }
@@ -574,7 +589,7 @@ fn spelt_number(text: &str, least: u64, most: u64) -> Option<u32>
     }
 }
 
-/// Returns the sizes of a live session.
+/// Returns the arguments of `live`, or `None` if a number isn't in its range.
 fn sizes<'a>(matches: &ArgMatches<'a>) -> Option<LiveArgs>
     ensures { option_map sizes_of result ≡ sizes_in (rows_of (found_of matches.now)) }
 {
@@ -585,7 +600,8 @@ fn sizes<'a>(matches: &ArgMatches<'a>) -> Option<LiveArgs>
     })
 }
 
-/// Returns the number of an option, if it is in the option's range.
+/// Returns the number of an option. Returns `None` if the option has no number, or if the number isn't in the option's
+/// range.
 fn number<'a>(matches: &ArgMatches<'a>, option: NumberOption) -> Option<u64>
     ensures value { result ≡ number_in option.name.now option.least option.most (rows_of (found_of matches.now)) }
     ensures range { IfSome result (λ number. (option.least ≤ number) × (number ≤ option.most)) }
@@ -598,8 +614,8 @@ fn number<'a>(matches: &ArgMatches<'a>, option: NumberOption) -> Option<u64>
     }
 }
 
-/// The number that was given for an option, or `Some(None)` if none was given. `None` if the number isn't in the
-/// option's range.
+/// Returns the number that is given for an option, or `Some(None)` if the option isn't given. Returns `None` if the
+/// number isn't in the option's range.
 fn number_if_given<'a>(matches: &ArgMatches<'a>, option: NumberOption) -> Option<Option<u32>>
     requires { option.most < 2 ^ 32 }
     ensures value { result ≡ given_in option.name.now option.least option.most (rows_of (found_of matches.now)) }
@@ -611,14 +627,15 @@ fn number_if_given<'a>(matches: &ArgMatches<'a>, option: NumberOption) -> Option
     }
 }
 
-/// The program's command line: a command with its subcommands, help and version.
+/// Returns the program's `clap` command, with its subcommands, help and version. The only error is an allocation
+/// failure.
 fn meshrun_command<'a>(alloc: Global) -> Result<Command<'a>, AllocError>
     ensures { IfOk result (λ command. app_of command ≡ meshrun_app) }
 {
     with_subcommands(alloc, bare_command(alloc), SUBCOMMANDS)
 }
 
-/// The program's command without its subcommands.
+/// Returns the program's `clap` command without its subcommands.
 fn bare_command<'a>(alloc: Global) -> Command<'a>
     ensures { app_of result ≡ bare_app }
 {
@@ -629,7 +646,8 @@ fn bare_command<'a>(alloc: Global) -> Command<'a>
         .arg_required_else_help(true)
 }
 
-/// Returns the command with these subcommands added after those that it has.
+/// Returns the command with these subcommands added after its existing subcommands. The only error is an allocation
+/// failure.
 fn with_subcommands<'a>(
     alloc: Global,
     command: Command<'a>,
@@ -646,7 +664,7 @@ fn with_subcommands<'a>(
     Ok(command)
 }
 
-/// The `clap` command of a subcommand.
+/// Returns the `clap` command of a subcommand. The only error is an allocation failure.
 fn subcommand_of<'a>(alloc: Global, subcommand: &Subcommand) -> Result<Command<'a>, AllocError>
     ensures { IfOk result (λ command. app_of command ≡ subcommand_app subcommand.now) }
 {
@@ -717,8 +735,8 @@ fn number_option<'a>(alloc: Global, option: NumberOption) -> Arg<'a>
         .help(option.help)
 }
 
-/// Returns how the program stops if the system doesn't return the words of its command line. The reason is that the
-/// words are no text, or an allocation failure.
+/// Returns the exit status and the text for an error of the system when it returns the words of the command line. The
+/// error is an allocation failure, or the words are no UTF-8 text.
 pub fn unread_words(error: &io::Error) -> Stop
     ensures memory { error_kind error.now ≡ IoOutOfMemory → IsOutOfMemory result }
     ensures other { error_kind error.now ≢ IoOutOfMemory → IsNoText result }
@@ -732,7 +750,8 @@ pub fn unread_words(error: &io::Error) -> Stop
     }
 }
 
-/// How the program stops for this error.
+/// Returns the exit status and the text for an error of `clap`. If the text can't be allocated, returns those for an
+/// allocation failure.
 fn stop_of(alloc: Global, error: &Error) -> Stop
     ensures stop { IsOutOfMemory result ⊎ (result.status ≡ status_of_kind (kind_of error.now)) }
     ensures memory { kind_of error.now ≡ ErrorKind.OutOfMemory → IsOutOfMemory result }
@@ -750,7 +769,7 @@ fn stop_of(alloc: Global, error: &Error) -> Stop
     }
 }
 
-/// How the program stops after an allocation failure.
+/// Returns the exit status and the text for an allocation failure.
 fn out_of_memory() -> Stop
     ensures { IsOutOfMemory result }
 {

@@ -1,7 +1,7 @@
-//! The command line of the program `meshrun`: what its words ask for.
+//! Reads the command line of the program `meshrun`.
 //!
-//! `arguments` reads the words with `clap`, and returns what they ask for (`Args`) or why the program stops (`Stop`).
-//! Nothing here opens a file or prints.
+//! `arguments` reads the words with `clap`. It returns the request (`Args`) with its patterns, or the exit status and
+//! the text of a command line that runs no subcommand (`Stop`). Nothing here opens a file or prints.
 #![tactic(auto)]
 
 mod check_args;

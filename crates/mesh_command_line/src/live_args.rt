@@ -1,15 +1,14 @@
 //! The arguments of `live`.
 ghost use Rattle.mesh_command_line.specs.LiveArgs.{AreFairSizes};
 
-/// The sizes of the session of `live`, as in the header of a job file. The type guarantees that they are in their
-/// ranges.
+/// The sizes of a live session, as in the header of a job file. The type guarantees that all three are in their ranges.
 #[derive(Clone, Copy, PartialEq, Eq)]
 pub struct LiveArgs {
-    /// How many physical pages the arena has, 1 to 4,096.
+    /// The number of physical pages of the arena, 1 to 4,096.
     pub pages: u32,
-    /// How many entries the journal has room for, 0 to 65,536.
+    /// The capacity of the journal, in entries, 0 to 65,536.
     pub history: u32,
-    /// How many workers there are, 1 to 64.
+    /// The number of workers, 1 to 64.
     pub workers: u32,
     pub ghost ranges: { AreFairSizes pages history workers },
 }

@@ -1,12 +1,12 @@
-//! The meshes that an exploration makes.
+//! The list of the meshes of an exploration.
 ghost use Rattle.std.specs.Prelude.{◌≡◌, ◌+◌, ◌<◌, ◌≤◌, [], ◌∷◌, ◌++◌, length, take};
 
 use mesh_explore::MeshPair;
 
-/// The greatest number of meshes of an exploration.
+/// The greatest number of meshes in an exploration.
 pub(crate) const MOST_MESHES: usize = 10;
 
-/// Up to ten meshes, in the order in which they were asked for.
+/// Up to ten meshes, in the order in which they are given.
 #[derive(Clone, Copy, PartialEq, Eq)]
 pub struct Meshes {
     // The pairs at index `count` and above are unused: group 0 into group 0.
@@ -38,7 +38,7 @@ impl Meshes {
         &self.pairs[..self.count]
     }
 
-    /// Appends a mesh.
+    /// Appends a mesh to the list, which must have fewer than ten.
     pub(crate) fn add(&mut self, pair: MeshPair)
         requires { self.old.count < 10 }
         ensures pairs { take self.new.count self.new.pairs ≡ take self.old.count self.old.pairs ++ pair ∷ [] }

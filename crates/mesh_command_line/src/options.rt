@@ -1,27 +1,27 @@
 //! The options of the command line, and the table of its subcommands.
 
-/// The name of the file argument, on the command line and in the help.
+/// The name of the file argument. It is also the file's name in the help.
 pub(crate) const FILE: &str = "FILE";
 
-/// The flag that asks for a recorded history.
+/// The name of the flag that asks for a recorded history.
 pub(crate) const RECORDED: &str = "history";
 
-/// The flag that makes all words of objects 0.
+/// The name of the flag that sets all words of objects to 0.
 pub(crate) const FIRST_FIT: &str = "first-fit";
 
-/// The flag that asks for a plot.
+/// The name of the flag that asks for a plot.
 pub(crate) const SVG: &str = "svg";
 
-/// The flag that asks for an order of effects instead of a verdict.
+/// The name of the flag that asks for an order of effects instead of a verdict.
 pub(crate) const ORDER: &str = "order";
 
-/// The option that asks for a mesh.
+/// The name of the option that asks for a mesh.
 pub(crate) const MESH: &str = "mesh";
 
 /// The name of the two groups of a mesh in the help.
 pub(crate) const GROUPS: &str = "SRC:DST";
 
-/// The flag that asks for the number of states found.
+/// The name of the flag that asks for the number of found states.
 pub(crate) const PROGRESS: &str = "progress";
 
 /// An option with a number.
@@ -217,25 +217,25 @@ pub(crate) const LAST_CALL: NumberOption = NumberOption {
 /// An argument that may follow the name of a subcommand.
 #[derive(Clone, Copy)]
 pub(crate) enum Argument {
-    /// The file, with its help text.
+    /// The file argument, with its help text.
     File(&'static str),
-    /// The meshes.
+    /// The option for meshes, which must be given at least once.
     Meshes,
-    /// An option with a number. The option must be given.
+    /// An option with a number, which must be given.
     Required(NumberOption),
-    /// An option with a number, and its default.
+    /// An option with a number, and the text of its default.
     Default(NumberOption, &'static str),
-    /// An optional option with a number.
+    /// An option with a number, which may be left out.
     Optional(NumberOption),
-    /// The flag with this name, and its help text.
+    /// A flag: its name and its help text.
     Flag(&'static str, &'static str),
-    /// An optional option with a text.
+    /// An option with a text, which may be left out.
     Text(TextOption),
-    /// An optional option with a text. It may be given several times.
+    /// An option with a text, which may be left out or be given several times.
     Texts(TextOption),
 }
 
-/// A subcommand: its name, its help, and what may follow it.
+/// A subcommand: its name, its help text, an example, and its arguments.
 #[derive(Clone, Copy)]
 pub(crate) struct Subcommand {
     pub(crate) name: &'static str,
@@ -288,7 +288,7 @@ pub(crate) const SAVINGS: Subcommand = Subcommand {
     ],
 };
 
-/// The subcommands, in the order in which help shows them.
+/// The subcommands, in the order in which the help shows them.
 pub(crate) const SUBCOMMANDS: &[Subcommand] = &[
     Subcommand {
         name: "replay",

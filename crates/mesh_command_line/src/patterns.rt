@@ -1,7 +1,7 @@
-//! The patterns that no outcome may match.
+//! The list of the patterns that no outcome may match.
 ghost use Rattle.std.specs.Prelude.{◌≡◌, ◌<◌, ◌≤◌, ◌+◌, [], ◌∷◌, ◌++◌, length, map, take};
 
-/// The greatest number of patterns of a verdict.
+/// The greatest number of patterns in a verdict.
 pub(crate) const MOST_PATTERNS: usize = 10;
 
 /// Up to ten patterns, as texts, in the order in which they were given.
@@ -33,7 +33,7 @@ impl<'a> Patterns<'a> {
         &self.texts[..self.count]
     }
 
-    /// Appends a pattern.
+    /// Appends a pattern to the list, which must have fewer than ten.
     pub(crate) fn add(&mut self, text: &'a str)
         requires { self.old.count < 10 }
         ensures texts { take self.new.count self.new.texts ≡ take self.old.count self.old.texts ++ text.entry ∷ [] }

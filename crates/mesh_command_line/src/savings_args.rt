@@ -5,15 +5,15 @@ ghost use Rattle.mesh_command_line.specs.SavingsArgs.{AreInRange};
 /// their ranges.
 #[derive(Clone, Copy, PartialEq, Eq)]
 pub struct SavingsArgs {
-    /// How many objects of up to 2,048 bytes are freed between two rounds of meshing, 1 or more.
+    /// The number of objects of up to 2,048 bytes that are freed between two rounds of meshing, 1 or more.
     pub every: u32,
-    /// The greatest number of rounds of tries of a search, 0 to 64.
+    /// The greatest number of rounds in a split search, 0 to 64.
     pub probe: u32,
-    /// The seed of the objects' words. Without a seed all words are 0: each object takes the first free slot.
+    /// The seed of the objects' words. If it is `None`, all words are 0, and each object gets the first free slot.
     pub seed: Option<u64>,
-    /// The first call that the figures cover, counted from 1.
+    /// The first call of the history for which figures are printed, counted from 1.
     pub from: u32,
-    /// The last call that the figures cover, at least the first.
+    /// The last call of the history for which figures are printed. It is not before the first.
     pub to: u32,
     /// Whether a plot is printed instead of the table.
     pub is_plot: bool,

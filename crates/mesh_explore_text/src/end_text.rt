@@ -1,4 +1,4 @@
-//! The text about how an outcome's plan ends.
+//! The text about the last state of an interleaving.
 ghost use Rattle.std.specs.Prelude.{◌<◌, length};
 
 use crate::job_lines::command_line;
@@ -11,8 +11,8 @@ use mesh_job::Job;
 use mesh_text::add_decimal;
 use std::alloc::{AllocError, Global};
 
-/// Adds the lines of a state in which no move is left: the progress of each mesh, and why each worker with commands
-/// left does not go on. Every error in this file is an allocation failure.
+/// Adds the text about a state in which no move is left: the phase of each mesh, and for each worker with commands left
+/// the reason why it can't continue. Every error in this file is an allocation failure.
 pub(crate) fn add_end(
     alloc: Global,
     text: &mut Vec<u8>,
@@ -29,7 +29,7 @@ pub(crate) fn add_end(
     text.extend_from_slice(b"\n")
 }
 
-/// Adds the progress of a mesh.
+/// Adds the groups of a mesh, and its phase. Adds nothing if there is no such mesher.
 fn add_mesh(text: &mut Vec<u8>, state: &StateAt<'_>, mesher: usize) -> Result<(), AllocError> {
     let Some(pair) = pair_of(state, mesher) else {
         return Ok(());
@@ -44,7 +44,8 @@ fn add_mesh(text: &mut Vec<u8>, state: &StateAt<'_>, mesher: usize) -> Result<()
     }
 }
 
-/// Adds why a worker does not go on, if it has commands left.
+/// Adds the reason why a worker can't continue: the history is full, or its next command is blocked. Adds nothing if
+/// the worker has no command left, or its next attempt gets a reply.
 fn add_worker(
     alloc: Global,
     text: &mut Vec<u8>,

@@ -3,10 +3,10 @@ ghost use Rattle.std.specs.Prelude.{◌<◌, length};
 
 use mesh_job::Job;
 
-/// The line of a job file, counted from 1, at which the lines of the first worker begin.
+/// The line of a job file, counted from 1, at which the lines of the first worker start.
 const FIRST_WORKER_LINE: u64 = 5;
 
-/// Returns the line number, counted from 1, of the command at this place in the worker's script.
+/// Returns the line number, counted from 1, of the command at a place of a worker's script.
 pub(crate) fn command_line(job: &Job, worker: u32, place: usize) -> u64
     requires { worker < length job.now.scripts }
 {

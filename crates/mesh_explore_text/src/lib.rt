@@ -1,17 +1,17 @@
-//! What an exploration reports: its answers and outcomes as values, and as text from a job's file.
+//! Reports an exploration: its answers and outcomes as values, and as text.
 //!
-//! The reached states are gathered into a listing, which is proved to be complete and to contain nothing else
-//! (`listing`, of `notes`, `outcomes` and `ends`; `phase` is the phase of a mesh). `explore` reads a job, explores what
-//! its plan leaves and writes that listing. `summary` is the text of a listing:
+//! The answers, phases and outcomes of the reached states are gathered into a `Listing`. It is proved to contain all of
+//! them and nothing else. `explore` reads a job, explores the commands that its plan leaves, and writes the text of the
+//! listing. `summary` returns this text:
 //!
 //! - for each command its answers, and for each answer the phases of the meshes in which the command gets it
 //!   (`answer_text`, `ranges`);
-//! - the outcomes of all workers together (`told_text`), each with the moves that lead to it (`outcome_text`) and with
-//!   how these end (`end_text`).
+//! - the outcomes, each with the answers of all workers (`told_text`), a plan that leads to the outcome
+//!   (`outcome_text`), and the state after this plan (`end_text`).
 //!
-//! `lines` returns the lines of a plan that lead to a state. A job with these lines after its plan is a job file that
-//! leads to an outcome. A job file that ends with an answer in a phase of a mesh has one more line, that of the
-//! command's worker (`shown`). `wanted` selects which of these is reported.
+//! `lines` finds the plan lines that lead to a state. If these lines are added to the plan of the job, the job file
+//! leads to an outcome. If the line of a worker is added too, the job file ends with this worker's answer in a phase of
+//! a mesh (`shown`). `wanted` selects the text that is reported.
 #![tactic(auto)]
 
 mod answer_text;

@@ -1,4 +1,4 @@
-//! Reads the setting of a state.
+//! The parts of a state's setting.
 ghost use Rattle.std.specs.Prelude.{◌≡◌, ◌≤◌, length, slice_get};
 
 use mesh_explore::{MeshPair, StateAt};
@@ -19,21 +19,21 @@ pub(crate) fn meshers_of(state: &StateAt<'_>) -> usize
     state.setting().pairs.len()
 }
 
-/// Returns the pair of groups that a mesher meshes. The result is `None` only if there is no such mesher.
+/// Returns the pair of groups that a mesher meshes, or `None` if there is no such mesher.
 pub(crate) fn pair_of(state: &StateAt<'_>, mesher: usize) -> Option<MeshPair>
     ensures { result ≡ slice_get state.now.setting.pairs mesher }
 {
     state.setting().pairs.get(mesher).copied()
 }
 
-/// The version of the job's file.
+/// Returns the version of the job file.
 pub(crate) fn version_of(state: &StateAt<'_>) -> Version
     ensures { result ≡ state.now.setting.job.version }
 {
     state.setting().version()
 }
 
-/// Returns the number of steps after which each mesh is cancelled, or `None` if no mesh is cancelled.
+/// Returns the number of steps after which each mesh is cancelled, or `None` if meshes aren't cancelled.
 pub(crate) fn cancel_of(state: &StateAt<'_>) -> Option<u32>
     ensures { result ≡ state.now.setting.cancel }
 {

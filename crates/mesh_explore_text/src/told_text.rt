@@ -1,4 +1,4 @@
-//! The text of the workers' joint answers.
+//! The text of the replies to all workers.
 ghost use Rattle.std.specs.Prelude.{◌≡◌, ◌<◌, ◌++◌, ◌∷◌, Some, OnOk, length, slice_get};
 ghost use Rattle.std.specs.List.{flat_map};
 ghost use Rattle.mesh_explore_text.specs.ToldTexts.{next_text, replies_text, told_line, told_text};
@@ -9,7 +9,7 @@ use mesh_text::add_reply;
 use model_words::Reply;
 use std::alloc::AllocError;
 
-/// Adds a line for each worker that got an answer: ` worker W: ANSWER | ANSWER ..`. Every error in this file is an
+/// Adds a line for each worker that has got a reply: ` worker W: ANSWER | ANSWER ..`. Every error in this file is an
 /// allocation failure.
 pub fn add_told(text: &mut Vec<u8>, told: &[Told]) -> Result<(), AllocError>
     ensures { OnOk result (text.new.items ≡ text.old.items ++ told_text told.now) }
@@ -20,7 +20,7 @@ pub fn add_told(text: &mut Vec<u8>, told: &[Told]) -> Result<(), AllocError>
     Ok(())
 }
 
-/// Returns the answers of a worker.
+/// Returns the replies to a worker.
 fn told_at(told: &[Told], worker: usize) -> &[Reply]
     requires { worker < length told.now }
     ensures { slice_get told.now worker ≡ Some result.now }
@@ -28,7 +28,7 @@ fn told_at(told: &[Told], worker: usize) -> &[Reply]
     told[worker].replies()
 }
 
-/// Adds the line of a worker if it got an answer, and nothing otherwise.
+/// Adds the line of a worker. Adds nothing if the worker has got no reply.
 fn add_line(text: &mut Vec<u8>, worker: u64, replies: &[Reply]) -> Result<(), AllocError>
     ensures { OnOk result (text.new.items ≡ text.old.items ++ told_line worker replies.now) }
 {
@@ -43,7 +43,7 @@ fn add_line(text: &mut Vec<u8>, worker: u64, replies: &[Reply]) -> Result<(), Al
     }
 }
 
-/// Adds the text of a reply, and then the texts of the other replies.
+/// Adds the text of the reply `first`, followed by the texts of the replies `others`.
 fn add_replies(text: &mut Vec<u8>, first: &Reply, others: &[Reply]) -> Result<(), AllocError>
     ensures { OnOk result (text.new.items ≡ text.old.items ++ replies_text (first.now ∷ others.now)) }
 {
@@ -51,7 +51,7 @@ fn add_replies(text: &mut Vec<u8>, first: &Reply, others: &[Reply]) -> Result<()
     add_others(text, others)
 }
 
-/// Adds the text of replies that follow another reply.
+/// Adds the texts of replies, each after a separator.
 fn add_others(text: &mut Vec<u8>, others: &[Reply]) -> Result<(), AllocError>
     ensures { OnOk result (text.new.items ≡ text.old.items ++ flat_map next_text others.now) }
 {

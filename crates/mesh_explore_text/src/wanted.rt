@@ -1,6 +1,6 @@
-//! What an exploration reports.
+//! The text that an exploration reports.
 
-/// The part of an exploration that is reported.
+/// The selection of the text that an exploration reports.
 #[derive(Clone, Copy)]
 pub enum Wanted<'a> {
     /// All answers and outcomes.
@@ -11,14 +11,14 @@ pub enum Wanted<'a> {
     Answer(Shown<'a>),
 }
 
-/// An answer to a command in a phase of a mesh.
+/// An answer to a command, in a phase of a mesh.
 #[derive(Clone, Copy)]
 pub struct Shown<'a> {
-    /// The line of the job's file at which the command is, counted from 1.
+    /// The line of the command in the job file, counted from 1.
     pub line: u32,
     /// The answer as it is printed, for example `done` or `blocked`.
     pub answer: &'a [u8],
-    /// The phase as it is printed. Alone it is a phase of any mesh, and after `mesh K: ` of the mesh with the number K,
-    /// counted from 0.
+    /// The phase as it is printed. A phase with the prefix `mesh K: ` is one of mesh K, counted from 0. Without this
+    /// prefix, it is a phase of any mesh.
     pub phase: &'a [u8],
 }

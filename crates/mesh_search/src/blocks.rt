@@ -1,15 +1,15 @@
-//! A list in blocks, so that removing an element from the middle takes few steps.
+//! A list in blocks. Removing an element moves only elements of one block.
 ghost use Rattle.std.specs.Prelude.{◌≡◌, ◌+◌, ◌<◌, ◌++◌, length, slice_index, slice_index_or, take, IfOk, OnOk};
 ghost use Rattle.std.specs.List.{flat_map, remove};
 ghost use Rattle.std.specs.Vec.{vec_items};
 
 use std::alloc::{AllocError, Global};
 
-/// The initial number of elements of a block. Removing an element moves at most this number, and 4,096 elements are in
-/// 16 blocks.
+/// The greatest number of elements of a block. Removing an element moves fewer than this number of elements. A list of
+/// 4,096 elements has 16 blocks.
 const BLOCK: usize = 256;
 
-/// Splits a list into consecutive blocks.
+/// Copies a list into consecutive blocks. The only error is an allocation failure.
 pub(crate) fn blocks_of(alloc: Global, list: &[u32]) -> Result<Vec<Vec<u32>>, AllocError>
     ensures { IfOk result (λ blocks. flat_map vec_items blocks.items ≡ list.now) }
 {
@@ -23,7 +23,7 @@ pub(crate) fn blocks_of(alloc: Global, list: &[u32]) -> Result<Vec<Vec<u32>>, Al
     Ok(blocks)
 }
 
-/// Returns the number of the block that contains a place of the list, and the place within that block.
+/// Returns the index of the block that contains the list's element at `place`, and the element's place in that block.
 fn block_at(blocks: &[Vec<u32>], place: usize) -> (usize, usize)
     requires { place < length (flat_map vec_items blocks.now) }
     ensures block { result.0 < length blocks.now }
@@ -39,7 +39,7 @@ fn block_at(blocks: &[Vec<u32>], place: usize) -> (usize, usize)
     (k, left)
 }
 
-/// Removes and returns the element at a place.
+/// Removes the list's element at `place` from its block, and returns the element.
 pub(crate) fn take_out(blocks: &mut Vec<Vec<u32>>, place: usize) -> u32
     requires { place < length (flat_map vec_items blocks.old.items) }
     ensures element { result ≡ slice_index (flat_map vec_items blocks.old.items) place }
@@ -49,7 +49,7 @@ pub(crate) fn take_out(blocks: &mut Vec<Vec<u32>>, place: usize) -> u32
     blocks[k].remove(within)
 }
 
-/// Appends the elements of the blocks to `order`.
+/// Appends the elements of all blocks to `order`. The only error is an allocation failure.
 pub(crate) fn add_blocks(order: &mut Vec<u32>, blocks: &[Vec<u32>]) -> Result<(), AllocError>
     ensures { OnOk result (order.new.items ≡ order.old.items ++ flat_map vec_items blocks.now) }
 {

@@ -1,4 +1,4 @@
-//! Why a search ends without an answer.
+//! The reasons why a search returns no result.
 ghost use Rattle.std.specs.Prelude.{◌≡◌};
 ghost use Rattle.mesh_search.specs.declared.faults.SearchError.{SearchError};
 
@@ -6,13 +6,13 @@ use std::alloc::AllocError;
 use std::thread::SpawnError;
 use thiserror::Error;
 
-/// Why a search ended without an answer.
+/// The reason why a search returns no result.
 #[derive(Debug, Drop, PartialEq, Eq, Error)]
 pub enum SearchError {
     /// An allocation failed.
     #[error("out of memory")]
     Memory,
-    /// A thread couldn't be started, or its result isn't the one that was asked for.
+    /// A thread couldn't be started, or a thread returned the result of another part of a round.
     #[error("thread fault")]
     Thread,
 }

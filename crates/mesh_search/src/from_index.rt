@@ -1,4 +1,4 @@
-//! Builds the view of a class from the index.
+//! The view of a class, built from the span index.
 ghost use Rattle.std.specs.Prelude.{◌≡◌, filter, IfOk};
 ghost use Rattle.model_search.specs.Search.{may_be_paired, viewed};
 ghost use Rattle.mesh_spans.specs.Groups.{groups_of, is_closed};
@@ -9,7 +9,8 @@ use mesh_class::Class;
 use mesh_spans::Spans;
 use std::alloc::{AllocError, Global};
 
-/// Returns the candidates of a class in the index, ascending: its groups that are in no mesh, not empty and not full.
+/// Returns a view of a class: the groups of the class that are in no mesh, not empty and not full, in ascending order
+/// of their numbers.
 ///
 /// The only error is an allocation failure.
 pub fn class_view(alloc: Global, spans: &Spans, class: Class) -> Result<ClassView, AllocError>

@@ -1,4 +1,4 @@
-//! The gate: points at which a test may stop a thread.
+//! The gate, with the points at which a test can stop a thread.
 use model_words::StepKind;
 
 /// The actor that arrives at a gate.
@@ -12,22 +12,23 @@ pub enum Actor {
     Searcher(u32),
 }
 
-/// A point at which an actor arrives. Only at `Reading` the actor holds the lock.
+/// A point at which an actor arrives. An actor holds the lock only at the point `Reading`.
 #[derive(Clone, Copy, Debug, PartialEq, Eq)]
 pub enum Point {
-    /// A worker's call, counted from 0, has returned.
+    /// A call of a worker has returned. The number is the call's place among all calls of the worker, counted from 0.
     Called(u32),
-    /// A mesh was begun.
+    /// A mesh has begun.
     Begun,
-    /// A step of this kind was made, and this number of steps is left.
+    /// A mesh has made a step of this kind, and this number of its steps is left.
     Stepped(StepKind, u32),
-    /// A searcher is about to work on the class of this size.
+    /// A searcher starts its part of the first round for the class of this slot size.
     Class(u32),
-    /// A worker is inside a reading call, counted from 0, under the shared lock.
+    /// A worker has taken the shared lock and is inside a reading call. The number is the call's place among all calls
+    /// of the worker, counted from 0.
     Reading(u32),
 }
 
-/// A trait whose method is called when a thread arrives at a point. The method may wait, and promises nothing.
+/// A hook that threads call at each point. The call may wait. Its contract promises nothing.
 pub trait Gate {
     /// Reports that an actor has arrived at a point.
     fn arrive(&self, actor: Actor, point: Point);

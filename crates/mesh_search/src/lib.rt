@@ -1,12 +1,12 @@
-//! The split search: which groups of a class a mesher may pair.
+//! The split search: finds pairs of groups of a class that a mesher can mesh.
 //!
-//! A `ClassView` contains the candidates of one class; `class_view` builds it from the index. `search_one` shuffles the
-//! candidates, splits the shuffled order into two lists, and tries candidates of one list with candidates of the other
-//! in rounds. `split_mesh` does the same with a given order.
+//! A `ClassView` contains the candidates of one class. `class_view` builds it from the index. `search_one` shuffles the
+//! candidates and splits the shuffled order into two lists. In each round, it tries candidates of the first list with
+//! candidates of the second list. `split_mesh` does the same with a given order instead of a shuffled one.
 //!
-//! `search` runs each round on as many scoped threads as it has workers, and returns the same pairs. For every view
-//! that a heap has, `search_one` is faster. In contracts, a view is the list of its candidates, and a candidate is a
-//! number and a set of slots.
+//! `search` runs each round on several scoped threads, and returns the same pairs as `search_one`. For every view that
+//! a heap has, `search_one` is faster. In contracts, a view is the list of its candidates, and a candidate is a number
+//! and a set of slots.
 #![tactic(auto)]
 
 mod blocks;

@@ -11,7 +11,7 @@ use std::marker::Model;
 /// The number of bytes of a page, for arithmetic on addresses.
 pub(crate) const PAGE_BYTES: u32 = 4096;
 
-/// The location of one span, and the group that it belongs to.
+/// The first virtual page, the size class and the group of one span.
 #[derive(Drop)]
 pub(crate) struct Extent {
     // The first virtual page.
@@ -32,7 +32,7 @@ impl Model for Extent {
 }
 
 impl Extent {
-    /// Returns the span of a class that starts at the virtual page `first` and belongs to the group `group`.
+    /// Returns a span with the first virtual page `first`, the size class `class` and the group `group`.
     pub fn new(first: u32, class: Class, group: u32) -> Extent
         requires first { 1 ≤ first }
         requires last { first + pages_of class ≤ 65536 }
@@ -69,14 +69,15 @@ impl Extent {
         self.class
     }
 
-    /// Moves the span to another group.
+    /// Sets the span's group to `group`.
     pub fn join(&mut self, group: u32)
         ensures { self.new ≡ in_group group self.old }
     {
         self.group = group;
     }
 
-    /// Returns the slot of an address and the offset in the slot. `None` only if the address is outside the span.
+    /// Returns the slot that contains an address, and the offset of the address in the slot. Returns `None` if the
+    /// address is outside the span.
     pub fn find(&self, addr: u32) -> Option<(Slot, u32)>
         ensures slot { IfSome result (λ r. r.0 < slots_of self.now.class) }
         ensures offset { IfSome result (λ r. r.1 < self.now.class) }

@@ -1,4 +1,4 @@
-//! The filing of groups: which bin of a class and fullness has a group's number, and what the group adds to the counts.
+//! The filing of groups: the bin that contains a group's number, and the counts of one group.
 ghost use Rattle.std.specs.Prelude.{◌≡◌, ℕ, ◌+◌, ◌*◌, ◌<◌, ◌≤◌, ◌||◌, length, IfOk, IfSome};
 ghost use Rattle.std.specs.FinSet as set;
 ghost use Rattle.mesh_bins.specs.Words.{IsLeast};
@@ -18,17 +18,17 @@ use std::alloc::{AllocError, Global};
 /// The number of bins: three for each of the ten classes.
 const BINS: usize = 30;
 
-/// How a group is filed.
+/// The bin and the counts of one group.
 #[derive(Clone, Copy)]
 pub(crate) struct Filed {
-    /// The place of the bin that has the group's number, or `None` if no bin has it.
+    /// The place, among all bins, of the bin that contains the group's number. `None` if no bin contains the number.
     pub bin: Option<u32>,
-    /// What the group adds to the counts.
+    /// The counts of this group alone.
     pub counts: Totals,
 }
 
 impl Filed {
-    /// Returns how a group, or a number without a group (`None`), is to be filed.
+    /// Returns the bin and the counts of a group. If `group` is `None`, the bin is `None` and the counts are 0.
     pub fn of(group: &Option<Group>) -> Filed
         ensures bin { result.bin ≡ file_of group.now }
         ensures place { IfSome result.bin (λ place. place < 30) }
@@ -43,7 +43,8 @@ impl Filed {
     }
 }
 
-/// Makes the bins, with no group in any of them, and allocates all the memory that the bins will ever use.
+/// Makes 30 empty bins, and allocates all the memory that the bins will ever use. The only error is an allocation
+/// failure.
 pub(crate) fn new_bins(alloc: Global) -> Result<Vec<Bin>, AllocError>
     ensures long { IfOk result (λ bins. length bins.items ≡ 30) }
     ensures none { IfOk result (λ bins. (place : ℕ) → bin_at bins.items place ≡ set.empty) }
@@ -55,7 +56,7 @@ pub(crate) fn new_bins(alloc: Global) -> Result<Vec<Bin>, AllocError>
     Ok(bins)
 }
 
-/// Returns the bin of a group, or `None` if the group belongs in no bin.
+/// Returns the place of a group's bin. Returns `None` if there is no group, or the group is in a mesh.
 fn bin_of(group: &Option<Group>) -> Option<u32>
     ensures bin { result ≡ file_of group.now }
     ensures few { IfSome result (λ place. place < 30) }
@@ -67,7 +68,7 @@ fn bin_of(group: &Option<Group>) -> Option<u32>
     Some(bin_place(group.class(), group.fullness()))
 }
 
-/// Returns the place, among all bins, of the bin for a class and a fullness.
+/// Returns the place, among all bins, of the bin for this class and fullness.
 fn bin_place(class: Class, fullness: Fullness) -> u32
     ensures place { result ≡ 3 * class_index class + fullness_place fullness }
     ensures few { result < 30 }
@@ -77,7 +78,7 @@ fn bin_place(class: Class, fullness: Fullness) -> u32
     3 * class.index() + fullness.place()
 }
 
-/// Returns what a group adds to the counts, which is nothing if there is no group.
+/// Returns the counts of one group. If there is no group, the counts are 0.
 fn counts_of(group: &Option<Group>) -> Totals
     ensures counts { result ≡ counts_of group.now }
     ensures few { IsWithin 1 result }
@@ -93,7 +94,8 @@ fn counts_of(group: &Option<Group>) -> Totals
     }
 }
 
-/// Moves a number from the bin at `from` to the bin at `to`. Nothing is written if both are the same bin.
+/// Moves the number `n` from the bin at `from` to the bin at `to`. If one of them is `None`, the number is only added
+/// or only removed. Writes nothing if `from` and `to` are equal.
 pub(crate) fn rebin(bins: &mut Vec<Bin>, n: u32, from: Option<u32>, to: Option<u32>)
     requires number { n < 65536 }
     requires sized { length bins.old.items ≡ 30 }
@@ -107,7 +109,7 @@ pub(crate) fn rebin(bins: &mut Vec<Bin>, n: u32, from: Option<u32>, to: Option<u
     }
 }
 
-/// Removes a number from a bin.
+/// Removes the number `n` from the bin at `place`. Does nothing if `place` is `None`.
 pub(crate) fn unfile(bins: &mut Vec<Bin>, n: u32, place: Option<u32>)
     requires { HasPlace bins.old.items n place }
     ensures { IsLeftWith bins.new.items (unfiled bins.old.items n place) }
@@ -117,7 +119,7 @@ pub(crate) fn unfile(bins: &mut Vec<Bin>, n: u32, place: Option<u32>)
     }
 }
 
-/// Puts a number into a bin.
+/// Adds the number `n` to the bin at `place`. Does nothing if `place` is `None`.
 pub(crate) fn file(bins: &mut Vec<Bin>, n: u32, place: Option<u32>)
     requires { HasPlace bins.old.items n place }
     ensures { IsLeftWith bins.new.items (filed bins.old.items n place) }
@@ -127,7 +129,8 @@ pub(crate) fn file(bins: &mut Vec<Bin>, n: u32, place: Option<u32>)
     }
 }
 
-/// Returns the lowest group of the class that is in no mesh and has a free slot, or `None` if there is no such group.
+/// Returns the lowest number among the groups of a class that are in no mesh and have a free slot. Returns `None` if
+/// the class has no such group.
 pub(crate) fn lowest_open(bins: &[Bin], class: Class) -> Option<u32>
     requires sized { length bins.now ≡ 30 }
     ensures place { class_index class < 10 }
@@ -144,8 +147,8 @@ pub(crate) fn lowest_open(bins: &[Bin], class: Class) -> Option<u32>
     )
 }
 
-/// Returns the lowest group of the class at or above a number that is in no mesh, not empty and not full. Returns
-/// `None` if there is no such group.
+/// Returns the lowest number, at or above `from`, among the groups of a class that are in no mesh, not empty and not
+/// full. Returns `None` if there is no such number.
 pub(crate) fn lowest_partial(bins: &[Bin], class: Class, from: u32) -> Option<u32>
     requires sized { length bins.now ≡ 30 }
     ensures place { class_index class < 10 }
@@ -156,7 +159,7 @@ pub(crate) fn lowest_partial(bins: &[Bin], class: Class, from: u32) -> Option<u3
     bins[partial as usize].least(from)
 }
 
-/// Returns the lower of two numbers.
+/// Returns the lower of two optional numbers. If one is `None`, returns the other.
 fn lower(a: Option<u32>, b: Option<u32>) -> Option<u32>
     ensures { result ≡ lower_of a b }
 {

@@ -1,8 +1,8 @@
-//! How full a group is.
+//! `Fullness`: whether a group is empty, partly filled or full.
 ghost use Rattle.std.specs.Prelude.{◌≡◌, ◌≤◌};
 ghost use Rattle.mesh_spans.specs.GroupBins.{fullness_place};
 
-/// How full a group is. A class has a bin for each case.
+/// The fullness of a group. Each class has one bin for each case.
 #[derive(Clone, Copy, PartialEq, Eq)]
 pub(crate) enum Fullness {
     /// No slot is occupied.

@@ -53,8 +53,8 @@ impl Drop for Spans {
 }
 
 impl Spans {
-    /// Makes an index without spans. It keeps the allocator for the spans that are added. The table of virtual pages is
-    /// allocated here.
+    /// Makes an index without spans, and allocates the table of virtual pages. The index keeps the allocator for the
+    /// spans that are added later.
     ///
     /// The only error is an allocation failure.
     pub fn new(alloc: Global) -> Result<Spans, AllocError>
@@ -71,16 +71,16 @@ impl Spans {
         })
     }
 
-    /// States the invariant for callers: spans and groups fit together. The call changes nothing.
+    /// The spans and the groups of an index are consistent (`IsIndex`). The call does nothing: its contract is a lemma.
     pub fn sound(&self)
         ensures { IsIndex self.now.spans self.now.groups }
     {
         let _spans = self.spans.len();
     }
 
-    /// Adds a span of these virtual and physical pages, with a group of its own, and returns its number. The only error
-    /// is an allocation failure, after which the index is unchanged. Once an index is made, no other call on it
-    /// allocates.
+    /// Adds a span of the virtual pages from `first` on, with a new group on the physical pages `pages`. Returns the
+    /// span's number. The only error is an allocation failure, after which the index is unchanged. Of the calls on an
+    /// existing index, only this one allocates.
     pub fn add_span(&mut self, class: Class, first: u32, pages: &[Page]) -> Result<Span, AllocError>
         requires first { 1 ≤ first }
         requires last { first + pages_of class ≤ 65536 }
@@ -105,11 +105,11 @@ impl Spans {
         Ok(span)
     }
 
-    /// Returns the slot that the next object of the class takes, with its span. The group is the lowest of the class
-    /// that is in no mesh and has a free slot. The slot is at place `word mod count` in the ascending list of the
-    /// group's free slots, of which there are `count`. The span is the group's first member.
+    /// Returns the slot for the next object of a class, with the slot's span. The slot is in the class's group with the
+    /// lowest number that is in no mesh and has a free slot. The slot's place in the ascending list of the group's free
+    /// slots is `word` modulo the length of this list. The span is the group's first member.
     ///
-    /// `None` only if there is no such group.
+    /// Returns `None` if the class has no such group.
     pub fn open_slot(&self, class: Class, word: u64) -> Option<(Span, Slot)>
         ensures picked { IfSome result
             (λ r. IsSomeAnd (find (takes_objects (is_closed self.now) class) (groups_of self.now))
@@ -123,8 +123,8 @@ impl Spans {
         Some((group.first_member(), slot))
     }
 
-    /// Returns the lowest group of the class at or above `from` that is in no mesh, not empty and not full. `None` only
-    /// if there is no such group.
+    /// Returns the lowest number, at or above `from`, among the groups of a class that are in no mesh, not empty and
+    /// not full. Returns `None` if there is no such number.
     pub fn next_candidate(&self, class: Class, from: u32) -> Option<u32>
         ensures least { IsLeast (λ n. is_partial (group_at self.now.groups n) class) from 65536 result }
         ensures table { result ≡ option_map (λ g. g.number)
@@ -136,7 +136,7 @@ impl Spans {
         self.groups.lowest_partial(class, from)
     }
 
-    /// Records an object of `len` bytes in a slot.
+    /// Records an object of `len` bytes, with the serial `serial`, in a free slot of a span.
     pub fn occupy(&mut self, span: Span, slot: Slot, serial: u32, len: u32)
         requires vacant { IsVacant self.old (span_at self.old.spans span).class span slot }
         requires some { 1 ≤ len }
@@ -159,7 +159,7 @@ impl Spans {
         self.groups.put(group, slot, Some(object));
     }
 
-    /// Removes the record of a slot.
+    /// Removes the record of the object in a slot of a span. The slot must hold an object of this span.
     pub fn vacate(&mut self, span: Span, slot: Slot)
         requires { IsSome (record_at self.old span slot) }
         ensures spans { self.new.spans ≡ self.old.spans }
@@ -172,7 +172,7 @@ impl Spans {
         self.groups.put(group, slot, None);
     }
 
-    /// Marks a group as being in a mesh. The group then gets no new objects.
+    /// Marks the group with the number `n` as being in a mesh. A group in a mesh gets no new objects.
     pub fn close(&mut self, n: u32)
         requires { IsSome (group_at self.old.groups n) }
         ensures spans { self.new.spans ≡ self.old.spans }
@@ -183,7 +183,7 @@ impl Spans {
         self.set_in_mesh(n, true);
     }
 
-    /// Marks a group as being in no mesh.
+    /// Marks the group with the number `n` as being in no mesh.
     pub fn reopen(&mut self, n: u32)
         requires { IsSome (group_at self.old.groups n) }
         ensures spans { self.new.spans ≡ self.old.spans }
@@ -194,8 +194,9 @@ impl Spans {
         self.set_in_mesh(n, false);
     }
 
-    /// Merges the group `src` into `dst`: the members and objects of `src` are appended to those of `dst`, on the pages
-    /// of `dst`. After that no group has the number `src`.
+    /// Merges the group `src` into the group `dst`: appends the members of `src` to those of `dst`, and adds the
+    /// objects of `src`. The merged group keeps the number and the physical pages of `dst`. No group has the number
+    /// `src` afterwards.
     pub fn merge(&mut self, dst: u32, src: u32)
         requires pair { IsMergeable self.old dst src }
         ensures merges { (a b : GroupEntry) → group_at self.old.groups src ≡ Some a
@@ -211,7 +212,7 @@ impl Spans {
         }
     }
 
-    /// Removes a group. After that no group has its number.
+    /// Removes the group with the number `n`. No group has this number afterwards.
     pub fn retire(&mut self, n: u32)
         requires { IsSome (group_at self.old.groups n) }
         ensures spans { self.new.spans ≡ self.old.spans }
@@ -234,8 +235,8 @@ impl Spans {
         self.groups.totals()
     }
 
-    /// Returns serial and length of the object in a slot of a span. `None` only if no object of the span is in the
-    /// slot.
+    /// Returns the serial and the length of the object in a slot of a span. Returns `None` if the slot holds no object
+    /// of this span.
     pub fn record(&self, span: Span, slot: Slot) -> Option<(u32, u32)>
         ensures value { result ≡ record_at self.now span slot }
         ensures object { IfSome result (λ r. IsRecorded self.now span slot r.0 r.1) }
@@ -245,8 +246,8 @@ impl Spans {
         group.object_of(extent.first(), slot)
     }
 
-    /// Returns the span and the slot that contain an address, and the address's offset in the slot. The span belongs to
-    /// a current group. `None` only if the address is in no member of a group.
+    /// Returns the span and the slot that contain an address, and the offset of the address in the slot. The group of
+    /// the span still exists. Returns `None` if no member of a group contains the address.
     pub fn find(&self, addr: u32) -> Option<(Span, Slot, u32)>
         ensures span { IfSome result (λ r. r.0 < length self.now.spans) }
         ensures sound { IfSome result (λ r. IsSpan (span_at self.now.spans r.0)) }
@@ -292,14 +293,15 @@ impl Spans {
         self.extent(span).address(slot)
     }
 
-    /// Returns the group with this number. `None` only if no group has the number now.
+    /// Returns the group with this number, or `None` if no group has the number now.
     pub fn group(&self, number: u32) -> Option<&Group>
         ensures { option_copied result ≡ group_at self.now.groups number }
     {
         self.groups.get(number)
     }
 
-    /// Returns the span that owns the virtual page of an address, if the span's group still exists.
+    /// Returns the span that owns the virtual page of an address. Returns `None` if no span owns the page, or if the
+    /// group of the span no longer exists.
     fn live_span(&self, addr: u32) -> Option<Span>
         ensures span { IfSome result (λ span. span < length self.now.spans) }
         ensures live { IfSome result (λ span. IsSome (group_at self.now.groups (span_at self.now.spans span).group)) }
@@ -315,7 +317,7 @@ impl Spans {
         Some(span)
     }
 
-    /// Returns the location of a span.
+    /// Returns the first virtual page, the size class and the group of a span.
     fn extent(&self, span: Span) -> &Extent
         requires { span < length self.now.spans }
         ensures { result.now ≡ span_at self.now.spans span }
@@ -323,7 +325,7 @@ impl Spans {
         &self.spans[span.index()]
     }
 
-    /// Sets whether a group is in a mesh.
+    /// Sets whether the group with the number `n` is in a mesh.
     fn set_in_mesh(&mut self, n: u32, in_mesh: bool)
         requires { IsSome (group_at self.old.groups n) }
         ensures spans { self.new.spans ≡ self.old.spans }
@@ -334,7 +336,7 @@ impl Spans {
     }
 }
 
-/// Moves spans to another group.
+/// Sets the group of each span in `members` to `group`.
 fn regroup(spans: &mut Vec<Extent>, members: &[Span], group: u32)
     requires { (place : ℕ) → place < length members.now → slice_index members.now place < length spans.old.items }
     ensures { Regroups spans.old.items spans.new.items members.now (length members.now) group }

@@ -1,8 +1,8 @@
-//! The span index: which virtual spans there are, which group each belongs to, and the record of every object.
+//! The span index: all virtual spans, the group of each span, and the record of each object.
 //!
 //! A span is a run of virtual pages of one size class, cut into slots. A group is one physical span with its members,
-//! the virtual spans that are mapped to it. In contracts, the index consists of two lists: the spans, and the groups
-//! with the content of their slots. The counts over all groups are updated as groups change.
+//! which are the virtual spans that are mapped to it. In contracts, the index consists of two lists: the spans, and the
+//! groups with the content of their slots. The counts over all groups are updated as groups change.
 #![tactic(auto)]
 
 mod extent;

@@ -1,4 +1,4 @@
-//! `Owners`, the table of the spans that own the virtual pages.
+//! `Owners`: for each virtual page, the span that owns the page.
 ghost use Rattle.std.specs.Prelude.{◌≡◌, ℕ, ◌+◌, ◌<◌, ◌≤◌, ◌/◌, None, [], IfOk, length, slice_index_or, vec_capacity};
 ghost use Rattle.mesh_spans.specs.Index.{OwnsUpTo};
 
@@ -7,13 +7,13 @@ use crate::extent::PAGE_BYTES;
 use std::alloc::{AllocError, Global};
 use std::marker::Model;
 
-/// The count of virtual page numbers, with the unused number 0.
+/// The number of virtual page numbers, including the unused number 0.
 const VIRTUAL_PAGES: usize = 65_536;
 
 /// For each virtual page number, the span that owns the page.
 ///
-/// Capacity for all pages is allocated at the start. The list grows to a page's place when that page or a later one is
-/// first owned, so memory beyond that is never touched.
+/// The capacity for all pages is allocated at the start. The list ends at the highest page that has ever had an owner,
+/// so the memory for higher pages is never touched.
 #[derive(Drop)]
 pub(crate) struct Owners {
     spans: Vec<Option<Span>>,
@@ -38,7 +38,7 @@ impl Owners {
         Ok(Owners { spans })
     }
 
-    /// Returns the span that owns the virtual page of an address, or `None` if no span owns it.
+    /// Returns the span that owns the virtual page of an address, or `None` if no span owns the page.
     pub(crate) fn of(&self, addr: u32) -> Option<Span>
         ensures { result ≡ slice_index_or self.now (addr / 4096) None }
     {
@@ -46,7 +46,7 @@ impl Owners {
         self.spans.get(page).copied().flatten()
     }
 
-    /// Records a span as the owner of each of its pages.
+    /// Records `span` as the owner of `pages` virtual pages, the first of which is `first`.
     pub(crate) fn own(&mut self, first: u32, pages: u32, span: Span)
         requires { first + pages ≤ 65536 }
         ensures { OwnsUpTo self.old self.new first (first + pages) span }
@@ -55,7 +55,7 @@ impl Owners {
     }
 }
 
-/// Does the same as `Owners::own`, on the list of the owners.
+/// Records `span` in the list of owners, for `pages` virtual pages, the first of which is `first`.
 fn own_pages(spans: &mut Vec<Option<Span>>, first: u32, pages: u32, span: Span)
     requires short { length spans.old.items ≤ 65536 }
     requires room { 65536 ≤ vec_capacity spans.old }

@@ -1,4 +1,4 @@
-//! Which two groups may be merged.
+//! The check whether two groups may be merged.
 ghost use Rattle.std.specs.Prelude.{◌≡◌, ◌⊎◌, IfErr, IfNone, IfOk, IfSome, None};
 ghost use Rattle.mesh_spans.specs.Index.{group_at};
 ghost use Rattle.mesh_spans.specs.Pairs.{AreBoth, IsRefusedPair, MayMerge};
@@ -8,11 +8,11 @@ use crate::index::Spans;
 use mesh_class::Refusal;
 
 impl Spans {
-    /// Returns the group `source` if it may be merged into the group `destination`: both are of one class, no slot
-    /// number is occupied in both, and they have at most eight members together. `is_busy` states whether the class of
-    /// the source is busy. The groups' own mesh flags are not read.
+    /// Returns the group `source` if it may be merged into the group `destination`. The two groups must be different
+    /// groups of one class, and this class must not be busy (`is_busy`). The groups must have no common occupied slot,
+    /// and at most eight members together. The groups' own mesh flags are not read.
     ///
-    /// The refusal is the first of these that holds: NO_GROUP, SAME, CLASS, BUSY, OVERLAP, MEMBERS.
+    /// The refusal is the first that applies, in this order: NO_GROUP, SAME, CLASS, BUSY, OVERLAP, MEMBERS.
     pub fn may_merge(&self, source: u32, destination: u32, is_busy: bool) -> Result<&Group, Refusal>
         ensures may { IfOk result (λ from. MayMerge self.now source destination is_busy from.now) }
         ensures refused { IfErr result (IsRefusedPair self.now source destination is_busy) }
@@ -39,7 +39,7 @@ impl Spans {
         Ok(from)
     }
 
-    /// Returns the groups with these two numbers, or `None` if one of the numbers has no group.
+    /// Returns the groups with these two numbers, or `None` if at least one of the numbers has no group.
     fn both(&self, source: u32, destination: u32) -> Option<(&Group, &Group)>
         ensures some { IfSome result (λ both. AreBoth self.now source destination both.0.now both.1.now) }
         ensures none { IfNone result

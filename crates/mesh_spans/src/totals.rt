@@ -1,20 +1,20 @@
-//! `Totals`, the counts over groups.
+//! `Totals`: the counts over a number of groups.
 ghost use Rattle.std.specs.Prelude.{◌≡◌, ◌≤◌, None};
 ghost use Rattle.mesh_spans.specs.Counts.{IsPart, IsWithin, counts_of, with_group, without_group};
 
-/// The counts over groups.
+/// The counts over a number of groups.
 #[derive(Clone, Copy, PartialEq, Eq)]
 pub struct Totals {
     /// The number of live objects.
     pub objects: u32,
     /// The sum of the lengths of the live objects, in bytes.
     pub bytes: u32,
-    /// The number of mapped virtual pages: those of all members.
+    /// The number of mapped virtual pages, summed over all members of the groups.
     pub mapped: u32,
 }
 
 impl Totals {
-    /// Returns the counts over no groups, which are all 0.
+    /// Returns counts that are all 0.
     pub(crate) fn none() -> Totals
         ensures { result ≡ counts_of None }
     {
@@ -25,7 +25,7 @@ impl Totals {
         }
     }
 
-    /// Returns the counts with those of one group added.
+    /// Returns the sum of these counts and the counts `group` of one group.
     pub(crate) fn with_group(self, group: Totals) -> Totals
         requires few { IsWithin 65536 self }
         requires one { IsWithin 1 group }
@@ -38,7 +38,7 @@ impl Totals {
         }
     }
 
-    /// Returns the counts with those of one group subtracted.
+    /// Returns these counts minus the counts `group` of one group.
     pub(crate) fn without_group(self, group: Totals) -> Totals
         requires { IsPart group self }
         ensures { result ≡ without_group self group }

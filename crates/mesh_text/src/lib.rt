@@ -1,15 +1,15 @@
-//! The replay of a job into answer lines.
+//! The replay of a job file into answer lines.
 //!
 //! `replay` reads a job file from a device, runs the job's plan on a fresh heap, and writes one answer line for each
-//! line of the plan. A line of a worker is an attempt at its next command. Any other line is a call of the mesher:
-//! searches, meshes in steps or whole, cancels, sweeps and reports.
+//! line of the plan. A line with a worker's number is an attempt of this worker at its next command. Any other line is
+//! a call of the mesher: a search, a mesh in steps or as a whole, a cancel, a sweep or a report.
 //!
-//! `replay_recorded` writes the journal that the plan leaves instead of the answers, as a recorded history. `read_job`
-//! reads only the job. `Turns` plays a plan line by line.
+//! `replay_recorded` runs the plan too, but writes the journal as a recorded history instead of the answers. `read_job`
+//! only reads the job. `Turns` runs a plan line by line.
 //!
-//! `mesh_job` defines the job and reads its file, and `mesh_spelling` defines the text of an answer. In contracts, a
-//! device has the bytes that are left to read or that it accepted, as far as they are known, and whether one of its
-//! calls has failed.
+//! `mesh_job` defines the job and reads its file. `mesh_spelling` defines the text of an answer. In contracts, an input
+//! device has the bytes that are left to read, and an output device has the bytes that it has accepted, as far as they
+//! are known. Both have a flag whether one of their calls has failed.
 #![tactic(auto)]
 
 mod mesher;

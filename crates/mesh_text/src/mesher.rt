@@ -1,4 +1,4 @@
-//! A mesher's calls on a book, for the lines of a plan.
+//! The calls of a plan's mesher on a book.
 ghost use Rattle.std.specs.Prelude.{◌≡◌, IfOk};
 ghost use Rattle.model_jobs.specs.Jobs.{PagesMeshed, PairsFound, StepsLeft, busy_in, counted, step_answered, told};
 ghost use Rattle.model_heap.specs.Mesh.{begin, cancel, first_mesh, mesh_whole, step};
@@ -13,7 +13,8 @@ use mesh_steps::StepDone;
 use model_words::{Refusal, Version};
 use std::alloc::{AllocError, Global};
 
-/// Searches a class for pairs, without changing the book. The only error is an allocation failure.
+/// Searches a class for pairs of groups that can be meshed. The book isn't changed. The only error is an allocation
+/// failure.
 pub(crate) fn pair(alloc: Global, book: &Book, asked: &Search) -> Result<Found, AllocError>
     ensures { IfOk result
         (λ found. IsCall (λ state.
@@ -25,8 +26,8 @@ pub(crate) fn pair(alloc: Global, book: &Book, asked: &Search) -> Result<Found, 
     search_one(alloc, &view, asked.words.as_slice(), asked.rounds)
 }
 
-/// Begins a mesh. It is refused as BUSY in version 1 if a mesh of any class runs, and in version 2 if a mesh of the
-/// class of one of the two groups runs.
+/// Begins a mesh, and returns the number of its steps, or the refusal. A mesh is refused as BUSY in version 1 if a mesh
+/// of any class runs, and in version 2 if a mesh of the class of one of the two groups runs.
 pub(crate) fn begin(
     book: &mut Book,
     version: Version,
@@ -43,7 +44,7 @@ pub(crate) fn begin(
     }
 }
 
-/// Makes the next step of the first running mesh.
+/// Makes the next step of the first running mesh. The refusal is NO_MESH if no mesh runs.
 pub(crate) fn step_first(book: &mut Book) -> Result<StepDone, Refusal>
     ensures { IsCall (λ state. step_answered state (step state.table (first_mesh state.table))) book.old book.new
         (step_told result) }
@@ -54,7 +55,7 @@ pub(crate) fn step_first(book: &mut Book) -> Result<StepDone, Refusal>
     }
 }
 
-/// Cancels the first running mesh.
+/// Cancels the first running mesh. The refusal is NO_MESH if no mesh runs.
 pub(crate) fn cancel_first(book: &mut Book) -> Result<u32, Refusal>
     ensures { IsCall (λ state. counted state StepsLeft (cancel state.table (first_mesh state.table))) book.old book.new
         (count_told StepsLeft result) }
@@ -65,7 +66,8 @@ pub(crate) fn cancel_first(book: &mut Book) -> Result<u32, Refusal>
     }
 }
 
-/// Meshes two groups, with all steps of the mesh. It is refused as BUSY in the same cases as `begin`.
+/// Meshes two groups with all steps of the mesh, and returns the number of meshed pages, or the refusal. The mesh is
+/// refused as BUSY in the same cases as in `begin`.
 pub(crate) fn whole(
     book: &mut Book,
     version: Version,

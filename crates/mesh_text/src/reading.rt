@@ -1,4 +1,4 @@
-//! Reads a job from a device.
+//! The reading of a job from a device.
 ghost use Rattle.std.specs.Prelude.{◌≡◌, ◌+◌, ◌≤◌, ◌⊎◌, false, true, ℕ, List, [], length, take, vec_len, IfOk, IfErr, OnOk};
 ghost use Rattle.mesh_job.specs.Taken.{HasTaken, IsReading, bytes_taken};
 ghost use Rattle.mesh_text.specs.Replay.{HasReadInto, HasReadJob, HasReadNoJob, IsHeld};
@@ -7,21 +7,21 @@ use mesh_devices::{ReplayError, Source, read_some};
 use mesh_job::{Job, MAX_FILE_BYTES, Reading};
 use std::alloc::{AllocError, Global};
 
-/// The greatest number of bytes that are read. It is one more than a job file may have, so that a longer file is
-/// recognized.
+/// The greatest number of bytes that are read: one more than a job file may have. With the additional byte, a file that
+/// is too long is recognized.
 const MAX_READ: usize = MAX_FILE_BYTES + 1;
 
 /// The greatest number of bytes of one read.
 const READ_BYTES: usize = 16_384;
 
-/// The number of bytes that the buffer has for the beginning of a line, before the bytes of the next read.
+/// The number of bytes in the buffer for the start of a line whose end hasn't been read yet.
 const MAX_LINE_BYTES: usize = 1024;
 
-/// Reads a job file from the input and returns its job.
+/// Reads a job file from the input, and returns its job.
 ///
 /// The input is read to its end, or to 1,048,577 bytes, which is one more than a job file may have. The error is `Read`
-/// if the input failed, `Text` if what was read is no job file, and `Memory` if an allocation failed. It is never
-/// `Write`.
+/// if the input fails, `Text` if the bytes that were read are no job file, and `Memory` if an allocation fails. It is
+/// never `Write`.
 pub fn read_job<I: Source>(alloc: Global, input: &mut I) -> Result<Job, ReplayError>
     requires { I.has_failed input.old ≡ false }
     ensures ok { OnOk result (I.has_failed input.new ≡ false) }
@@ -35,15 +35,17 @@ pub fn read_job<I: Source>(alloc: Global, input: &mut I) -> Result<Job, ReplayEr
     Ok(reading.finish(&buffer[..held])?)
 }
 
-/// Returns a buffer for the bytes of one read, and for the beginning of a line before them.
+/// Returns a buffer with room for the start of a line, followed by the bytes of one read. The only error is an
+/// allocation failure.
 fn room_to_read(alloc: Global) -> Result<Vec<u8>, AllocError>
     ensures { IfOk result (λ room. vec_len room ≡ 17408) }
 {
     vec![in alloc; 0; READ_BYTES + MAX_LINE_BYTES]
 }
 
-/// Reads the input to its end, or to its first 1,048,577 bytes, piece by piece, and passes the whole lines of each
-/// piece to `reading`. Returns the number of remaining bytes, which are at the front of the buffer.
+/// Reads the input to its end, or to its first 1,048,577 bytes. After each read, passes the whole lines to `reading`.
+/// Returns the number of remaining bytes, which are at the front of the buffer. The error is `Read` if the input fails,
+/// and `Memory` if an allocation fails.
 fn read_pieces<I: Source>(
     input: &mut I,
     reading: &mut Reading,
@@ -73,8 +75,8 @@ fn read_pieces<I: Source>(
     Ok(held)
 }
 
-/// Takes the whole lines among the first `held` bytes of a buffer, and moves the remaining bytes to its front. Returns
-/// the number of remaining bytes.
+/// Passes the whole lines among the first `held` bytes of a buffer to `reading`, and moves the remaining bytes to the
+/// buffer's front. Returns the number of remaining bytes. The only error is an allocation failure.
 fn take_lines(reading: &mut Reading, buffer: &mut [u8], held: usize) -> Result<usize, AllocError>
     requires sound { IsReading reading.old }
     requires held { held ≤ length buffer.old }

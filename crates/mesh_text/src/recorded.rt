@@ -14,11 +14,11 @@ use mesh_job::Job;
 use mesh_spelling::recorded_journal;
 use std::alloc::{AllocError, Global};
 
-/// Replays the job file that the input gives, and writes the recorded history of its journal instead of the answers.
+/// Replays the job file that the input contains, and writes the recorded history of its journal instead of the answers.
 ///
-/// Job and plan are as in `replay`. Nothing is written before the plan is over. The error is `Read` if the input
-/// failed, `Text` if what was read is no job file, and `Memory` if an allocation failed; nothing was written then. It
-/// is `Write` if the output failed.
+/// The job is read and its plan is run as in `replay`. Nothing is written before the whole plan has been run. The error
+/// is `Read` if the input fails, `Text` if the input is no job file, and `Memory` if an allocation fails. After these
+/// errors, nothing was written. The error is `Write` if the output fails.
 pub fn replay_recorded<I: Source, O: Sink>(
     alloc: Global,
     input: &mut I,
@@ -40,7 +40,8 @@ pub fn replay_recorded<I: Source, O: Sink>(
     record(alloc, &job, output)
 }
 
-/// Runs the plan of a job on a fresh heap, and writes the recorded history of its journal.
+/// Runs the plan of a job on a fresh heap, and writes the recorded history of its journal. The error is `Memory` if an
+/// allocation fails, and `Write` if the output fails.
 #[tactic(auto, using(crate::proofs::PlayEnds::never_ok, crate::proofs::PlayEnds::not_write, crate::proofs::PlayEnds::is_memory))]
 fn record<O: Sink>(alloc: Global, job: &Job, output: &mut O) -> Result<(), ReplayError>
     requires { O.has_failed output.old ≡ false }
@@ -57,7 +58,8 @@ fn record<O: Sink>(alloc: Global, job: &Job, output: &mut O) -> Result<(), Repla
     write_lines(output, text.as_slice())
 }
 
-/// Returns the recorded history of the journal that a job's plan leaves on a fresh heap.
+/// Runs the plan of a job on a fresh heap, and returns the recorded history of its journal. The only error is an
+/// allocation failure.
 fn recorded_play(alloc: Global, job: &Job) -> Result<Vec<u8>, AllocError>
     ensures { IfOk result (λ text. text.items ≡ recorded_text (journal_of job.now)) }
 {
@@ -66,7 +68,7 @@ fn recorded_play(alloc: Global, job: &Job) -> Result<Vec<u8>, AllocError>
     recorded_journal(alloc, turns.book().journal())
 }
 
-/// Plays all lines of a job's plan, and drops the answers.
+/// Runs all lines of a job's plan, and discards the answers. The only error is an allocation failure.
 fn play_all(alloc: Global, job: &Job, turns: &mut Turns) -> Result<(), AllocError>
     requires { StandsBehind job.now 0 turns.old }
     ensures { OnOk result (StandsBehind job.now (length job.now.plan) turns.new) }

@@ -13,18 +13,18 @@ use mesh_devices::{ReplayError, Sink, Source, write_lines};
 use mesh_job::Job;
 use std::alloc::Global;
 
-/// The number of bytes of answers that are collected before they are written.
+/// The size, in bytes, from which collected answer lines are written to the output.
 const CHUNK_BYTES: usize = 8192;
 
-/// Replays the job file that the input gives, and writes the answer lines of its plan.
+/// Replays the job file that the input contains, and writes the answer lines of its plan.
 ///
-/// The input is read to its end, or to 1,048,577 bytes, which is one more than a job file may have. Each line of the
-/// plan gives one line of text, and whole lines are written together. In a file of version 1 a mesh can't begin while a
-/// mesh of any class runs, and `step` and `cancel` apply to the running mesh. In version 2 each class may have a mesh,
-/// and `step` and `cancel` name the class.
+/// The input is read to its end, or to 1,048,577 bytes, which is one more than a job file may have. The output has one
+/// line for each line of the plan. Several whole lines are written together. In version 1, a mesh can't begin while a
+/// mesh of any class runs, and the lines `step` and `cancel` apply to the running mesh. In version 2, each class may
+/// have a running mesh, and the lines `step` and `cancel` name the class.
 ///
-/// The error is `Read` if the input failed, and `Text` if what was read is no job file; nothing was written then. It is
-/// `Memory` if an allocation failed, and `Write` if the output failed.
+/// The error is `Read` if the input fails, and `Text` if the input is no job file. After these errors, nothing was
+/// written. The error is `Memory` if an allocation fails, and `Write` if the output fails.
 #[tactic(auto, using(crate::proofs::PlayEnds::never_ok, crate::proofs::PlayEnds::not_write, crate::proofs::PlayEnds::is_memory))]
 pub fn replay<I: Source, O: Sink>(
     alloc: Global,
@@ -47,7 +47,8 @@ pub fn replay<I: Source, O: Sink>(
     play(alloc, &job, &mut turns, &mut text, output)
 }
 
-/// Runs the plan of a job from its initial state, and writes its answer lines, which are collected in a buffer.
+/// Runs the plan of a job from its initial state, and writes its answer lines. The lines are collected in `text` before
+/// they are written.
 #[tactic(auto, using(crate::proofs::PlayEnds::never_ok, crate::proofs::PlayEnds::not_write, crate::proofs::PlayEnds::is_memory))]
 fn play<O: Sink>(
     alloc: Global,

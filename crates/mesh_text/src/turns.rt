@@ -1,4 +1,4 @@
-//! The workers of a job and its mesher, which take turns as the plan states.
+//! `Turns`: a job's heap, on which the workers and the mesher make their calls in the order of the plan.
 ghost use Rattle.std.specs.Prelude.{◌≡◌, ◌+◌, ◌<◌, ◌++◌, [], ◌∷◌, length, slice_get, slice_index, slice_index_or, vec_len, IfOk, OnOk};
 ghost use Rattle.model_jobs.specs.JobFiles.{IsValidLine};
 ghost use Rattle.model_jobs.specs.Jobs.{Job as PlainJob, RunWorker, State, answer, initial_state, run_next};
@@ -15,10 +15,10 @@ use mesh_steps::Heap;
 use model_words::Command;
 use std::alloc::{AllocError, Global};
 
-/// The heap that a job's workers and its mesher use in turn, and the place of each worker in its script.
+/// The heap of a job with its root cells and its journal, and each worker's place in its script.
 pub struct Turns {
     pub(crate) book: Book,
-    /// For each worker the place of its next command.
+    /// For each worker, the place of its next command in its script, counted from 0.
     pub(crate) next: Vec<usize>,
 }
 
@@ -28,7 +28,7 @@ impl Drop for Turns {
 }
 
 impl Turns {
-    /// Returns a fresh heap, with each worker at the beginning of its script. The only error is an allocation failure.
+    /// Returns a fresh heap, with each worker at the start of its script. The only error is an allocation failure.
     pub fn open(alloc: Global, job: &Job) -> Result<Turns, AllocError>
         ensures workers { IfOk result (λ turns. worker_count turns ≡ length job.now.scripts) }
         ensures initial_state { IfOk result
@@ -40,22 +40,21 @@ impl Turns {
         Ok(Turns { book, next })
     }
 
-    /// Returns the heap after the lines that were played so far.
+    /// Returns the heap after the lines that have been run.
     pub fn heap(&self) -> &Heap
         ensures { result.now ≡ (book_of self.now).heap }
     {
         self.book.heap()
     }
 
-    /// Returns the heap with its root cells and its journal, after the lines that were played so far.
+    /// Returns the heap, with its root cells and its journal, after the lines that have been run.
     pub fn book(&self) -> &Book
         ensures { result.now ≡ book_of self.now }
     {
         &self.book
     }
 
-    /// Returns the command that a worker attempts next. The result is `None` only if the worker has no command left, or
-    /// there is no such worker.
+    /// Returns the command that a worker attempts next, or `None` if the worker has no command left or doesn't exist.
     pub fn next_command(&self, job: &Job, worker: u32) -> Option<Command>
         requires { worker_count self.now ≡ length job.now.scripts }
         ensures { result ≡ slice_get (slice_index_or job.now.scripts worker [])
@@ -65,8 +64,8 @@ impl Turns {
         job.scripts.of(worker).get(place)
     }
 
-    /// Plays the line of a job's plan at a place, counted from 0, and stores its answer in `text`, without the line's
-    /// end. All lines before it must have been played. The only error is an allocation failure.
+    /// Runs the line at `place`, counted from 0, of a job's plan. Replaces the content of `text` with the answer,
+    /// without a line end. All earlier lines must have been run. The only error is an allocation failure.
     pub fn play(
         &mut self,
         alloc: Global,
@@ -84,8 +83,8 @@ impl Turns {
         self.answer(alloc, job, &job.plan.lines()[place], text)
     }
 
-    /// Performs a line of the plan and appends its answer, without the line's end. The only error is an allocation
-    /// failure.
+    /// Runs a line as if it were the next line of the plan, and appends its answer, without a line end. The only error
+    /// is an allocation failure.
     pub fn answer(
         &mut self,
         alloc: Global,
@@ -129,8 +128,8 @@ impl Turns {
         }
     }
 
-    /// Attempts a command that is in no script, for a worker whose own script is over. Appends the answer, without the
-    /// line's end. The only error is an allocation failure.
+    /// Attempts a command that is in no script, for a worker whose script is over. Appends the answer, without a line
+    /// end. The only error is an allocation failure.
     pub fn attempt(
         &mut self,
         worker: u32,
@@ -154,8 +153,8 @@ impl Turns {
         }
     }
 
-    /// Attempts the worker's next command, and appends the answer. The worker moves on to the command after it only if
-    /// there is a reply.
+    /// Attempts a worker's next command, and appends the answer, or `over` if the worker has no command left. Only
+    /// after a reply, the worker's place is advanced to the next command. The only error is an allocation failure.
     fn run(&mut self, worker: u32, script: &Script, text: &mut Vec<u8>) -> Result<(), AllocError>
         requires { worker < vec_len self.old.next }
         ensures workers { vec_len self.new.next ≡ vec_len self.old.next }
