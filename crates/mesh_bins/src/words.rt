@@ -65,7 +65,8 @@ pub(crate) fn is_zero(words: &[u64], place: u32) -> bool
     words[place as usize] == 0
 }
 
-/// Returns the number of the least set bit of a word at or above `from`. Returns `None` if no such bit is set.
+/// Returns the number of the lowest set bit of a word, among its bits from `from` on. Returns `None` if none of them is
+/// set.
 pub(crate) fn least_in(word: u64, from: u32) -> Option<u32>
     requires { from < 64 }
     ensures { IsLeast (bit word) from 64 result }
@@ -77,7 +78,8 @@ pub(crate) fn least_in(word: u64, from: u32) -> Option<u32>
     Some(from + rest.trailing_zeros())
 }
 
-/// Returns the number of the least set bit of the words at or above `from`. Returns `None` if no such bit is set.
+/// Returns the number of the lowest set bit of the list, among its bits from `from` on. Returns `None` if none of them
+/// is set.
 pub(crate) fn least_of(words: &[u64], from: u32) -> Option<u32>
     requires { 64 * length words.now ≤ 65536 }
     ensures { IsLeast (has words.now) from (64 * length words.now) result }
@@ -92,8 +94,8 @@ pub(crate) fn least_of(words: &[u64], from: u32) -> Option<u32>
     None
 }
 
-/// Returns the number of the least set bit of the words at or above `from`. Returns `None` if no such bit is set. Bit
-/// `j` of `marks` must be set if and only if word `j` isn't zero, so words of zeros are skipped.
+/// Returns the number of the lowest set bit of the list, among its bits from `from` on. Returns `None` if none of them
+/// is set. Bit `j` of `marks` must be set if and only if word `j` isn't zero, so words of zeros are skipped.
 pub(crate) fn least_marked(words: &[u64], marks: &[u64], from: u32) -> Option<u32>
     requires few { 64 * length marks.now ≤ 65536 }
     requires long { length words.now ≤ 64 * length marks.now }

@@ -25,7 +25,7 @@ impl Totals {
         }
     }
 
-    /// Returns the sum of these counts and the counts `group` of one group.
+    /// Returns these counts with the counts of one group added.
     pub(crate) fn with_group(self, group: Totals) -> Totals
         requires few { IsWithin 65536 self }
         requires one { IsWithin 1 group }
@@ -38,7 +38,7 @@ impl Totals {
         }
     }
 
-    /// Returns these counts minus the counts `group` of one group.
+    /// Returns these counts with the counts of one group subtracted.
     pub(crate) fn without_group(self, group: Totals) -> Totals
         requires { IsPart group self }
         ensures { result ≡ without_group self group }
