@@ -69,7 +69,7 @@ fn judges<R: AllocGlobal + Abort>(rt: &R, name: &str, text: &str, line: &str) {
     }
 }
 
-/// Asserts that the verdict on each history of a table has the line in its row.
+/// Asserts for each row of a table that the verdict on the row's history is printed as the row's line.
 fn judges_all<R: AllocGlobal + Abort>(rt: &R, table: &str) {
     for row in table.split('#') {
         let mut fields = row.split('|');

@@ -152,7 +152,7 @@ impl Measured {
         }
     }
 
-    /// Returns the pages that the class at place `k` of the class table has after the last call.
+    /// Returns the page counts, after the last call, of the class at place `k` of the class table.
     pub fn class_ends(&self, k: usize) -> Pages
         requires { k < 10 }
         ensures { (first : ℕ) (samples : List Sample) → IsMeasured self.now first samples

@@ -43,8 +43,8 @@ impl Session {
     }
 
     /// Returns the book after the lines so far: the heap, its root cells and its journal. The journal is a legal
-    /// history of the reference memory. It ends in the memory that heap and cells mean. `Book::headline` states what
-    /// else holds of the book at any moment.
+    /// history of the reference memory. The journal ends in the memory that the heap and its cells represent.
+    /// `Book::headline` states what else holds of the book at any moment.
     pub fn book(&self) -> &Book
         ensures value { result.now ≡ book_of self.now }
         ensures legal { IsHistory (book_of self.now).entries }

@@ -105,9 +105,9 @@ impl Spans {
         Ok(span)
     }
 
-    /// Returns the slot for the next object of a class, with the slot's span. The slot is in the class's group with the
-    /// lowest number that is in no mesh and has a free slot. The slot's place in the ascending list of the group's free
-    /// slots is `word` modulo the length of this list. The span is the group's first member.
+    /// Returns the slot for the next object of a class, with the slot's span. Among the groups of the class that are in
+    /// no mesh and have a free slot, the slot is in the group with the lowest number. The slot's place in the ascending
+    /// list of the group's free slots is `word` modulo the length of this list. The span is the group's first member.
     ///
     /// Returns `None` if the class has no such group.
     pub fn open_slot(&self, class: Class, word: u64) -> Option<(Span, Slot)>
