@@ -18,7 +18,8 @@ pub enum Held {
     Freed,
 }
 
-/// The content of each cell. A cell is kept with its number or as the cell of a freed object, never both.
+/// The content of each cell. A cell in which a number was stored is kept in one of two ways: with the number that it
+/// holds, or as a cell through which an object was freed.
 ///
 /// Cells through which an object was freed are kept as ranges, so adjacent ones take no more memory than a single one.
 #[derive(Drop)]

@@ -108,7 +108,7 @@ pub fn stored_at(chunks: &BTreeMap<u64, Chunk>, number: u64, place: usize) -> Op
 }
 
 /// Overwrites the bytes of a chunk that begin at `place`, for the entry on a line. The only error is an allocation
-/// failure. It is possible only if the chunk was not kept, and nothing has changed after it.
+/// failure, which is possible only if the chunk was not kept. After the error nothing has changed.
 pub fn store_in(
     alloc: Global,
     chunks: &mut BTreeMap<u64, Chunk>,

@@ -34,8 +34,8 @@ pub fn check<I: Source>(alloc: Global, input: &mut I) -> Result<Verdict, ReplayE
     judge_input(&mut history, &mut memory, input)
 }
 
-/// Judges the entries that are read from `input`. Requires that no entry has been read yet. Returns the verdict, with
-/// the errors of `check`.
+/// Judges the entries that are read from `input`, and returns the verdict. Requires that no entry has been read yet.
+/// The errors are those of `check`.
 fn judge_input<I: Source>(
     history: &mut HistoryInput,
     memory: &mut Tracked,

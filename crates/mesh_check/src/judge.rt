@@ -28,7 +28,7 @@ impl Tracked {
     /// Returns `None` if the reference memory accepts the entry on a line, and performs the entry. Otherwise returns
     /// the reason why the reference memory rejects the entry. The only error is an allocation failure.
     ///
-    /// After a rejected entry or an error, the memory is no longer that of the entries before.
+    /// After a rejected entry or an error, the memory may differ from the memory after the earlier entries.
     pub fn judge(&mut self, line: u32, entry: &RecordedEntry) -> Result<Option<Reason>, AllocError>
         requires range { IsInRange (plain_command entry.now.command) }
         requires sized { IsSized (plain_command entry.now.command) }

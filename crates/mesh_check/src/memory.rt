@@ -217,8 +217,8 @@ impl Tracked {
         Ok(())
     }
 
-    /// Stores in `to` the number that `from` holds. The error is the first that applies, in this order: EMPTY, FREED of
-    /// `from`, Memory.
+    /// Stores in `to` the number that `from` holds. The error is the first that applies, in this order: EMPTY (the cell
+    /// `from`), FREED (the object of `from`), Memory.
     pub fn alias(&mut self, to: u32, from: u32) -> Result<(), CommandError>
         ensures done { OnOk result (IsDone self.old self.new (Command.Alias to from)) }
         ensures refused { IfErr result (IsRefused self.old self.new (Command.Alias to from)) }

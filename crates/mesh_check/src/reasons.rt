@@ -23,8 +23,8 @@ pub struct Difference {
     pub answered: RecordedReply,
     /// The answer of the reference memory.
     pub wanted: RecordedReply,
-    /// The first byte that differs, among those that both answers to a `get` or a `peek` have. `None` if there is no
-    /// such byte, or for another command.
+    /// For a `get` or a `peek`, the first byte that differs, among the bytes that both answers have. `None` if there is
+    /// no such byte, or for another command.
     pub byte: Option<DifferentByte>,
 }
 

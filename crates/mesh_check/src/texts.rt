@@ -92,7 +92,8 @@ fn add_byte(text: &mut Vec<u8>, byte: Option<DifferentByte>) -> Result<(), Alloc
     }
 }
 
-/// Appends the line of the entry that stored a byte last, or that no entry did.
+/// Appends ` was last stored at line L`, with the line of the last entry that stored a byte. Appends ` was never
+/// stored` if there is no such entry.
 fn add_store(text: &mut Vec<u8>, stored_at: Option<u32>) -> Result<(), AllocError>
     ensures { OnOk result (text.new.items ≡ text.old.items ++ store_text stored_at) }
 {

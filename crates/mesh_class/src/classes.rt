@@ -71,7 +71,7 @@ impl Class {
         }
     }
 
-    /// Returns the index of the class, 0 to 9, in the table by ascending size.
+    /// Returns the index of the class in the class table, 0 to 9. The table is in ascending order of slot size.
     pub fn index(self) -> u32
         ensures value { result ≡ class_index self }
         ensures few { result < 10 }

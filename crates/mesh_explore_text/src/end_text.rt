@@ -11,8 +11,8 @@ use mesh_job::Job;
 use mesh_text::add_decimal;
 use std::alloc::{AllocError, Global};
 
-/// Adds the text about a state in which no move is left: the phase of each mesh, and for each worker with commands left
-/// the reason why it can't continue. Every error in this file is an allocation failure.
+/// Adds the text about a state in which no move is left: the phase of each mesh and, for each worker that has commands
+/// left, the reason why the worker can't continue. Every error in this file is an allocation failure.
 pub(crate) fn add_end(
     alloc: Global,
     text: &mut Vec<u8>,
@@ -44,8 +44,8 @@ fn add_mesh(text: &mut Vec<u8>, state: &StateAt<'_>, mesher: usize) -> Result<()
     }
 }
 
-/// Adds the reason why a worker can't continue: the history is full, or its next command is blocked. Adds nothing if
-/// the worker has no command left, or its next attempt gets a reply.
+/// Adds the reason why a worker can't continue: the history is full, or the worker's next command is blocked. Adds
+/// nothing if the worker has no command left, or if the worker's next attempt gets a reply.
 fn add_worker(
     alloc: Global,
     text: &mut Vec<u8>,

@@ -9,9 +9,10 @@
 //! - the outcomes, each with the answers of all workers (`told_text`), a plan that leads to the outcome
 //!   (`outcome_text`), and the state after this plan (`end_text`).
 //!
-//! `lines` finds the plan lines that lead to a state. If these lines are added to the plan of the job, the job file
-//! leads to an outcome. If the line of a worker is added too, the job file ends with this worker's answer in a phase of
-//! a mesh (`shown`). `wanted` selects the text that is reported.
+//! `lines` finds the plan lines that lead to a state. If the lines that lead to the state of an outcome are added to
+//! the plan of the job, the job file leads to the outcome. If the lines that lead to some state are added, and then the
+//! line of a worker, the job file ends with the answer that this worker gets in the state's phases of the meshes
+//! (`shown`). `wanted` selects the text that is reported.
 #![tactic(auto)]
 
 mod answer_text;

@@ -18,7 +18,7 @@ pub struct Shown<'a> {
     pub line: u32,
     /// The answer as it is printed, for example `done` or `blocked`.
     pub answer: &'a [u8],
-    /// The phase as it is printed. A phase with the prefix `mesh K: ` is one of mesh K, counted from 0. Without this
-    /// prefix, it is a phase of any mesh.
+    /// The phase as it is printed. With the prefix `mesh K: `, it is a phase of the mesh of mesher K, counted from 0.
+    /// Without this prefix, it is a phase of any mesh.
     pub phase: &'a [u8],
 }

@@ -123,7 +123,7 @@ impl Dialect {
         }
     }
 
-    /// Reads a root cell. The error is NUMBER if the field isn't a cell of this text.
+    /// Reads a root cell. The error is NUMBER if the field isn't a cell that this kind of text allows.
     fn cell(self, field: &[u8]) -> Result<u32, FaultKind>
         ensures value { result ≡ (rules_of self).cell field.now }
         ensures most { IfOk result (λ cell. cell ≤ most_cell self) }
@@ -134,7 +134,8 @@ impl Dialect {
         }
     }
 
-    /// Reads a length or an offset. The error is NUMBER if the field isn't one of this text.
+    /// Reads a length or an offset. The error is NUMBER if the field isn't a length or an offset that this kind of text
+    /// allows.
     fn size(self, field: &[u8]) -> Result<u64, FaultKind>
         ensures value { result ≡ (rules_of self).size field.now }
         ensures most { IfOk result (λ size. size ≤ most_size self) }
@@ -145,7 +146,7 @@ impl Dialect {
         }
     }
 
-    /// Reads an address. The error is NUMBER if the field isn't an address of this text.
+    /// Reads an address. The error is NUMBER if the field isn't an address that this kind of text allows.
     fn place(self, field: &[u8]) -> Result<u64, FaultKind>
         ensures value { result ≡ (rules_of self).place field.now }
         ensures most { IfOk result (λ place. place ≤ most_place self) }

@@ -6,7 +6,7 @@ use crate::bases::Base;
 use crate::hex::has_leading_zero;
 use model_words::FaultKind;
 
-/// Returns the number whose decimal spelling the field is. A spelling has no leading zero, and the number is at most
+/// Returns the number that the field spells in decimal. A spelling has no leading zero, and the number is at most
 /// 18446744073709551615. Returns `None` if the field is no such spelling.
 fn decimal_of(field: &[u8]) -> Option<u64>
     ensures some { IfSome result (λ number. field.now ≡ decimal number) }

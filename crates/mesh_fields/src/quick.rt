@@ -40,8 +40,8 @@ pub fn behind_all<'a>(text: &'a [u8], front: &[u8]) -> Option<&'a [u8]>
     text.strip_prefix(front)
 }
 
-/// Whether digits are the spelling of a number: there is at least one digit, and 0 is the first digit only if it is the
-/// only one.
+/// Whether digits are the spelling of a number: there is at least one digit, and if there are two or more digits, the
+/// first digit isn't 0.
 #[inline]
 fn spell_number(digits: &[u8]) -> bool
     ensures some { IsTrue result → 1 ≤ length digits.now }

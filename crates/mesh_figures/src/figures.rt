@@ -34,7 +34,7 @@ impl Model for Figures {
 }
 
 impl Figures {
-    /// Returns the figures of no calls. Later, only calls in `window` are measured.
+    /// Returns the figures before the first call. Of the calls that follow, only those in `window` are measured.
     pub fn new(window: Window) -> Figures
         ensures { IsOf result window [] }
     {

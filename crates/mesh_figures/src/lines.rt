@@ -83,7 +83,8 @@ fn add_row(text: &mut Vec<u8>, name: &[u8], pages: &Pages, live: u64) -> Result<
     add(text, b"\n")
 }
 
-/// Adds the line about the call after which meshing saves most. If no call was measured, the line has only a dash.
+/// Adds the line about the call after which meshing saves most. If no call was measured, the line has a dash instead of
+/// the numbers.
 #[tactic(auto, unfolding(crate::specs::Texts::most_saved_line))]
 pub fn add_most_saved(text: &mut Vec<u8>, most: &Option<Saving>) -> Result<(), AllocError>
     ensures { OnOk result (text.new.items ≡ text.old.items ++ most_saved_line most.now) }
@@ -164,7 +165,7 @@ fn add_if_used(
     )
 }
 
-/// Adds the line of a class: its mean pages and its pages at the end.
+/// Adds the line of a class: the means of its numbers of pages, and its numbers of pages at the end.
 #[tactic(auto, unfolding(crate::specs::Texts::class_line))]
 fn add_class(
     text: &mut Vec<u8>,

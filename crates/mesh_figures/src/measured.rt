@@ -123,7 +123,8 @@ impl Measured {
         }
     }
 
-    /// Returns the mean of the live bytes, in whole pages.
+    /// Returns the mean of the samples' live bytes, each rounded up to whole pages. The mean is in pages, rounded half
+    /// up. It is 0 if there are no calls.
     pub fn live_mean(&self) -> u64
         ensures { (first : ℕ) (samples : List Sample) → IsMeasured self.now first samples
             → result ≡ mean (map live_pages samples) }
@@ -139,7 +140,8 @@ impl Measured {
         self.end.live_bytes.div_ceil(PAGE)
     }
 
-    /// Returns the mean pages of the class at place `k` of the class table, for both heaps and for perfect packing.
+    /// Returns the mean numbers of pages of the class at place `k` of the class table, for both heaps and for perfect
+    /// packing.
     pub fn class_means(&self, k: usize) -> Pages
         requires { k < 10 }
         ensures { (first : ℕ) (samples : List Sample) → IsMeasured self.now first samples
@@ -152,7 +154,8 @@ impl Measured {
         }
     }
 
-    /// Returns the page counts, after the last call, of the class at place `k` of the class table.
+    /// Returns the numbers of pages, after the last call, of the class at place `k` of the class table, for both heaps
+    /// and for perfect packing.
     pub fn class_ends(&self, k: usize) -> Pages
         requires { k < 10 }
         ensures { (first : ℕ) (samples : List Sample) → IsMeasured self.now first samples

@@ -90,7 +90,7 @@ pub fn add_number_left(text: &mut Vec<u8>, width: usize, number: u64) -> Result<
     add_left(text, width, digits.format(number).as_bytes())
 }
 
-/// Adds `tenths` tenths as a decimal number with one digit after the point.
+/// Adds a number that is given in tenths, with one digit after the decimal point.
 #[tactic(auto, unfolding(crate::specs::Texts::tenths_text))]
 pub fn add_tenths(text: &mut Vec<u8>, tenths: u64) -> Result<(), AllocError>
     ensures { OnOk result (text.new.items ≡ text.old.items ++ tenths_text tenths) }

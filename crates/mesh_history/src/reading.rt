@@ -94,8 +94,9 @@ impl EntryReader {
         Ok(Some((entry, rest)))
     }
 
-    /// Returns the next entry, and the bytes after it, if `quick_entry` reads this entry from the piece. Returns
-    /// `None`, and changes nothing, if it doesn't, or if the line begins before the piece.
+    /// Returns the next entry and the bytes after its line, if `quick_entry` reads the entry from the piece. Returns
+    /// `None`, and changes nothing, if `quick_entry` returns `None`, if the line begins before the piece, or if
+    /// 4,294,967,295 lines were read already.
     fn quick<'a>(&mut self, piece: &'a [u8]) -> Option<(RecordedEntry, &'a [u8])>
         requires later { 1 ≤ lines_of self.old }
         ensures entry { IfSome result (λ read. HasRead self.old self.new piece.now read.0 read.1.now) }

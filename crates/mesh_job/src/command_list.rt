@@ -9,8 +9,8 @@ use std::marker::Model;
 
 /// A list of unpacked commands.
 ///
-/// Each command that stores, loads or copies bytes does so with 1 to 32 of them, so each command may be passed to the
-/// heap.
+/// Each command that stores, loads or copies has 1 to 32 bytes to store, load or copy. So each command may be passed to
+/// the heap.
 #[derive(Drop)]
 pub struct Commands {
     commands: Vec<Command>,

@@ -12,8 +12,8 @@ use model_words::{Command, FaultKind, Version};
 /// Returns the command of a line with this word and these fields.
 ///
 /// The error is WORD if the version has no command with this word, or if the number of fields is wrong. Otherwise the
-/// leftmost field with a fault determines the error. It is NUMBER for a number or an address that is misspelt or out of
-/// its range, and HEX for the bytes of a `put` or a `poke`.
+/// leftmost field with a fault determines the error. The error is NUMBER if a number or an address is misspelt or out
+/// of its range, and HEX if the bytes of a `put` or a `poke` are misspelt or have a wrong length.
 pub fn command_of(version: Version, word: &[u8], fields: &[&[u8]]) -> Result<Command, FaultKind>
     ensures value { result ≡ command_in version word.now (texts fields.now) }
     ensures in_range { IfOk result IsInRange }

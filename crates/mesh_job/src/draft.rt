@@ -199,7 +199,7 @@ impl Draft {
         }
     }
 
-    /// Reads a line of the header into the draft. A line after the end is a fault.
+    /// Reads a line of the header into the draft. A line after the line `end` is a fault.
     fn take_header(&mut self, word: &[u8], fields: &[&[u8]]) -> Result<(), FaultKind>
         requires draft { IsDraft self.old }
         requires section { is_in_header self.old.section ≡ true }
@@ -224,7 +224,7 @@ impl Draft {
         Ok(())
     }
 
-    /// Reads the line `workers` or the line `worker 0` into the draft. A line after the end is a fault.
+    /// Reads the line `workers` or the line `worker 0` into the draft. A line after the line `end` is a fault.
     fn take_workers(&mut self, word: &[u8], fields: &[&[u8]]) -> Result<(), FaultKind>
         requires draft { IsDraft self.old }
         requires section { is_behind_sizes self.old.section ≡ true }

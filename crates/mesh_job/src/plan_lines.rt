@@ -53,7 +53,7 @@ pub fn plan_line(
     Ok(line)
 }
 
-/// Does the same as `plan_line` for each line except a `pair`, whose `word` isn't allowed here.
+/// Does the same as `plan_line`, for each line except a `pair`. The argument `word` must not be `pair`.
 fn short_line(
     version: Version,
     workers: u32,

@@ -18,8 +18,8 @@ const MAX_KEPT: usize = 0xffff_ffff;
 
 /// The commands of one worker, in the order in which the worker attempts them.
 ///
-/// Each command that stores, loads or copies bytes does so with 1 to 32 of them, so each command may be passed to the
-/// heap. A command takes 16 bytes. The bytes that commands store are kept in a separate list.
+/// Each command that stores, loads or copies has 1 to 32 bytes to store, load or copy. So each command may be passed to
+/// the heap. A command takes 16 bytes. The bytes that commands store are kept in a separate list.
 pub struct Script {
     commands: Vec<PackedCommand>,
     /// The bytes that the commands store, in the order of the commands.

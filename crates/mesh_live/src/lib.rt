@@ -1,7 +1,7 @@
 //! A live session: a fresh heap that takes one line at a time and answers each at once.
 //!
-//! A line is an attempt of a worker at a command, or a call of the mesher as in a plan of version 2. Each line is
-//! answered by the definitions of jobs, whatever lines came before. A line of any other form is answered with its
+//! A line is an attempt of a worker at a command, or a call of the mesher as in a plan of version 2. Each answer is the
+//! one that the definitions of jobs give, whatever lines came before. A line of any other form is answered with its
 //! fault, and changes nothing.
 #![tactic(auto)]
 

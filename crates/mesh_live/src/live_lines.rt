@@ -41,7 +41,7 @@ pub fn read_live_line(alloc: Global, workers: u32, line: &[u8]) -> Result<LiveLi
     line_of_fields(alloc, workers, fields.as_slice())
 }
 
-/// Reads the line of a session with these fields, its word first.
+/// Reads a line of a session from its fields. The first field is the line's word.
 fn line_of_fields(alloc: Global, workers: u32, fields: &[&[u8]]) -> Result<LiveLine, LineError>
     requires some { 1 ≤ workers }
     requires filled { list_any is_empty (texts fields.now) ≡ false }
@@ -89,9 +89,9 @@ fn attempt_of(workers: u32, fields: &[&[u8]]) -> Result<LiveLine, FaultKind>
     attempt_at(workers, *worker, command_of(Version::Two, *word, fields))
 }
 
-/// Returns the attempt of the worker that a field names, at a command that was read from the other fields. The error is
-/// the first that applies, in this order: WORD for the command, the fault of the worker, any other fault of the
-/// command.
+/// Returns the attempt of a worker at a command. The field `worker` names the worker, and `read` is the result of
+/// reading the command from the other fields. The error is the first that applies, in this order: WORD for the command,
+/// the fault of the field `worker`, any other fault of the command.
 fn attempt_at(
     workers: u32,
     worker: &[u8],

@@ -77,7 +77,8 @@ fn make_again(book: &mut Book, cell: u8, len: u32, wanted: &Reply) -> End {
     Err(CaseError::Wrong("one allocation was refused twice"))
 }
 
-/// Makes an object, and returns whether its allocations succeeded. The answer must then be `wanted`.
+/// Makes an object, and returns whether the allocations of the call succeeded. If they did, the answer must be
+/// `wanted`.
 fn has_room(book: &mut Book, cell: u8, len: u32, wanted: &Reply) -> Result<bool, CaseError> {
     match book.act(0, &Command::New(cell, len, 0)) {
         Attempt::Done(reply) => {

@@ -37,7 +37,8 @@ fn make_again(heap: &mut Heap, len: u32, wanted: Ref) -> End {
     Err(CaseError::Wrong("one allocation was refused twice"))
 }
 
-/// Makes an object, and returns whether its allocations succeeded. The object must then be `wanted`.
+/// Makes an object, and returns whether the allocations of the call succeeded. If they did, the object must be
+/// `wanted`.
 fn has_room(heap: &mut Heap, len: u32, wanted: Ref) -> Result<bool, CaseError> {
     if heap.is_full() {
         return Err(CaseError::Wrong("too many objects"));

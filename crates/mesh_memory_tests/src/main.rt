@@ -37,7 +37,8 @@ fn main(rt: HostRuntime) -> ExitCode {
     }
 }
 
-/// Prints that an allocation failed while the command line was read, and returns that this is no contradiction.
+/// Prints that an allocation failed while the command line was read. Returns true, because this failure doesn't
+/// contradict the contracts.
 fn tell_no_words<R: Print>(rt: &R) -> io::Result<bool> {
     println!(rt; "words: out of memory")?;
     Ok(true)

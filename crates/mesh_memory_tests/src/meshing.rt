@@ -1,4 +1,4 @@
-//! A case with running meshes, between whose steps no call allocates.
+//! A case with commands between the steps of two running meshes. No step and no command there allocates memory.
 ghost use Rattle.std.specs.Prelude.{◌≡◌, ◌∷◌, []};
 ghost use Rattle.model_words.specs.Commands.{IsInRange};
 
@@ -66,8 +66,8 @@ static OBJECTS: [(u8, u32); 14] = [
 /// The cells of the objects that are freed once all objects are made.
 static FREED: [u8; 7] = [0, 3, 10, 11, 16, 17, 20];
 
-/// Makes six groups: two that can be meshed in each of two classes (groups 0 to 3), an empty one (4), and one with one
-/// object (5).
+/// Makes six groups. Groups 0 and 1 are of one class and can be meshed. Groups 2 and 3 are of another class and can be
+/// meshed. Group 4 is empty, and group 5 has one object.
 fn set_up(book: &mut Book) -> Result<(), CaseError> {
     for (cell, len) in OBJECTS.iter() {
         make(book, *cell, *len)?;
@@ -163,7 +163,8 @@ fn finish(book: &mut Book) -> Result<(), CaseError> {
     expect(book.report() == REPORT, "another report")
 }
 
-/// Makes a step of a mesh of which `left` steps are left, and returns the number that is left then: one fewer.
+/// Makes a step of a mesh that has `left` steps left. Checks that the step leaves one step fewer, and returns the
+/// number of steps left after it.
 fn step(book: &mut Book, class: Class, left: u32) -> Result<u32, CaseError> {
     let Ok(step) = book.step(class) else {
         return Err(CaseError::Wrong("a step that is refused"));

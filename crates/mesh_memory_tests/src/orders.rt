@@ -22,7 +22,7 @@ impl Order {
     }
 }
 
-/// The objects of the cases. The four orders occupy 20 spans, two, one and 20 spans: 43 spans of three classes.
+/// The objects of the cases. The four orders occupy 20, 2, 1 and 20 spans: in all 43 spans of three classes.
 pub(crate) static ORDERS: [Order; 4] = [
     Order {
         len: 2048,

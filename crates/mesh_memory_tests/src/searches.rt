@@ -105,7 +105,8 @@ fn search_view(alloc: Global, view: &ClassView, place: usize) -> Result<(), Case
     check(&found, place)
 }
 
-/// Searches all views by two workers, twice: in two rounds, and in three rounds in which no pair is found.
+/// Searches the views of the worked example by two workers in two rounds, and checks the pairs that are found. Then
+/// searches views whose groups can't be meshed, in three rounds, and checks that no pair is found.
 pub(crate) fn search_by_two<R: Threads + Wait + Sync>(rt: &R, alloc: Global) -> End {
     let views = views_after(alloc, &FREED)?;
     let found = search(rt, alloc, views.as_slice(), &WORDS, 2, 2, &NoGate)?;

@@ -1,4 +1,4 @@
-//! A case with scripts on threads while meshers run.
+//! A case that runs scripts on threads while meshers run.
 ghost use Rattle.std.specs.Prelude.{◌≡◌, ◌≤◌};
 ghost use Rattle.std.specs.List.{All};
 ghost use Rattle.model_words.specs.Commands.{IsInRange};
@@ -69,8 +69,8 @@ fn both<'a>(first: &'a Commands, second: &'a Commands) -> [&'a [Command]; 2]
     [first.as_slice(), second.as_slice()]
 }
 
-/// Returns a worker's script, which makes objects, stores their bytes, frees every other pair of objects, and then
-/// reads.
+/// Returns a worker's script, which makes objects, stores one byte in each, frees half of the objects, and then reads.
+/// The freed objects are those at the places that are 0 or 3 modulo 4.
 fn script(alloc: Global, first: u8) -> Result<Commands, AllocError> {
     let mut script = Commands::new(alloc);
     for turn in 0..TURNS {

@@ -7,8 +7,8 @@ use crate::run::{Run, bytes_of, keep};
 use model_words::Command;
 
 /// A command without its bytes, in 16 bytes. Each variant is the packed `Command` variant of the same name. The fields
-/// are in memory in the order of the variant, so the two cells of `Copy` are adjacent. `Put` has the run of the stored
-/// bytes.
+/// of a variant are in memory in the order in which they are declared, so the two cells of `Copy` are adjacent. `Put`
+/// has the run of the stored bytes.
 #[derive(Drop)]
 pub enum PackedCommand {
     /// `New(cell, len, word)`.
@@ -55,7 +55,7 @@ pub fn pack_command(kept: &mut Vec<u8>, command: &Command) -> PackedCommand
     }
 }
 
-/// Returns the command that was packed. It allocates nothing.
+/// Returns the command that was packed. The call allocates nothing.
 pub fn unpack_command(kept: &[u8], command: &PackedCommand) -> Command
     requires { IsCommandWithin (length kept.now) command.now }
     ensures { result ≡ command_in kept.now command.now }

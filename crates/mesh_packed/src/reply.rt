@@ -41,7 +41,7 @@ pub fn pack_reply(kept: &mut Vec<u8>, reply: &Reply) -> PackedReply
     }
 }
 
-/// Returns the reply that was packed. It allocates nothing.
+/// Returns the reply that was packed. The call allocates nothing.
 pub fn unpack_reply(kept: &[u8], reply: &PackedReply) -> Reply
     requires { IsReplyWithin (length kept.now) reply.now }
     ensures { result ≡ reply_in kept.now reply.now }

@@ -18,7 +18,7 @@ use std::alloc::AllocError;
 const MAX_OBJECT_BYTES: u32 = 2048;
 
 impl Plain {
-    /// Returns the answer to a read, which may be a refusal. It allocates nothing.
+    /// Returns the answer to a read. The answer may be a refusal. The call allocates nothing.
     pub fn look(&self, command: &Command) -> Reply
         requires range { IsInRange command.now }
         requires read { is_read command.now ≡ true }
@@ -89,11 +89,11 @@ impl Plain {
         }
     }
 
-    /// Changes the memory as an answered command did. The object of a `New` gets the address in the reply.
+    /// Makes the change that an answered command made. The object of a `New` gets the address in the reply.
     ///
     /// A `New` whose reply names no object changes nothing. Any other command that this memory refuses changes nothing
-    /// either. The error is an allocation failure. Only an `Alias`, or a `New` that made an object, can fail, and
-    /// nothing changes then.
+    /// either. The only error is an allocation failure, which is possible only for an `Alias`, or for a `New` that made
+    /// an object. After the error nothing has changed.
     pub fn apply(&mut self, command: &Command, reply: &Reply) -> Result<(), AllocError>
         requires few { next_serial self.old < 2 ^ 32 - 1 }
         ensures done { OnOk result (self.new ≡ left_by self.old command.now reply.now) }
@@ -148,7 +148,8 @@ fn done(answer: Result<(), PlainFault>) -> Result<Reply, AllocError>
     }
 }
 
-/// Returns the reply with the refusal that has the fault's name.
+/// Returns the reply with the refusal that has the fault's name. `Memory` has no such refusal: the reply is then
+/// NO_PAGES.
 fn refused(fault: PlainFault) -> Reply
     ensures { (step : Result (Reply × Memory) Refusal) → IsRefusedAs fault step → result ≡ reply_in step }
 {

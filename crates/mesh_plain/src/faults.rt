@@ -2,7 +2,7 @@
 use std::alloc::AllocError;
 use thiserror::Error;
 
-/// The reason why a call on the reference memory changed nothing.
+/// The reason why a call on the reference memory failed. A failed call changes nothing.
 ///
 /// `Empty`, `Freed`, `Outside` and `Stray` are the refusals of the same names. `Memory` is not a refusal: only calls
 /// that allocate return it.

@@ -15,8 +15,8 @@ use mesh_judge::{Begun, CallVerdict, Judgement, Verdict, judge, judgement_line};
 use std::alloc::Global;
 
 /// Judges the recorded history in the input, writes the line of its verdict to the output or its fault to `errors`, and
-/// returns the exit status. For a history of overlapping calls, at most `most` configurations of an object may be met
-/// at the end of a call.
+/// returns the exit status. A history of overlapping calls isn't decided if an object has more than `most`
+/// configurations at the end of a call.
 ///
 /// The status is:
 ///

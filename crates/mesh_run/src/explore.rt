@@ -1,4 +1,4 @@
-//! The program's exploration of the commands that a plan leaves.
+//! The program's exploration of the commands that are left after a plan.
 ghost use Rattle.std.specs.Prelude.{◌≡◌, ◌≤◌, false, IfErr, OnOk, length};
 ghost use Rattle.model_jobs.specs.Texts.{ended};
 ghost use Rattle.mesh_explore_text.specs.Explorations.{HasExplored};
@@ -16,18 +16,19 @@ use mesh_explore_text::{ExploreError, ExploreOptions, Shown, Wanted, explore};
 use mesh_reach::Watch;
 use std::alloc::Global;
 
-/// Explores the commands that the plan of the job in the input leaves, writes the report to the output or a fault to
-/// `errors`, and returns the exit status. If a verdict is asked for, `criteria` decide it. The number of states that
-/// were found is reported to `watch`.
+/// Explores the commands that are left after the plan of the job in the input, writes the report to the output or a
+/// fault to `errors`, and returns the exit status. If a verdict is asked for, it says whether the outcomes meet the
+/// criteria `criteria`. The number of states that were found is reported to `watch`.
 ///
 /// The status is:
 ///
-/// - 0 if everything was written and, for a verdict, all is well;
-/// - 1 for a verdict if something isn't well;
+/// - 0 if everything was written and, for a verdict, the outcomes meet the criteria;
+/// - 1 for a verdict if the outcomes don't meet the criteria;
 /// - 1 with the line `read fault`, `write fault`, `out of memory` or `too many states: more than N; --states raises the
 ///   limit`;
 /// - 2 with the line `line N: KIND` if the job's text has a fault;
-/// - 2 with `no such outcome` or `no such answer in that phase` if what was asked for doesn't exist;
+/// - 2 with `no such outcome` or `no such answer in that phase` if the outcome or the answer that was asked for doesn't
+///   exist;
 /// - 2 with `--never K: no pattern 'worker W: ANSWER | ..'`.
 ///
 /// After an error nothing is written to the output, unless the output itself failed. If the line can't be written, the

@@ -12,9 +12,9 @@ use std::alloc::Global;
 /// Answers the lines of the input, one by one, on a fresh heap of these sizes, and returns the exit status. Each answer
 /// is a line of the output, and is written before the next line of the input is answered.
 ///
-/// The status is 0 if the line `end` was read, or the input to its end, and every answer was written. It is 1 with the
-/// line `read fault`, `write fault` or `out of memory` in `errors`. A line that is not valid in a session is answered
-/// with its fault, and the run continues.
+/// The status is 0 if every answer was written, up to the line `end` or, without such a line, up to the end of the
+/// input. The status is 1 with the line `read fault`, `write fault` or `out of memory` in `errors`. A line that is not
+/// valid in a session is answered with its fault, and the run continues.
 pub fn live_run<I: Source, O: Sink, E: Sink>(
     alloc: Global,
     args: &LiveArgs,

@@ -1,4 +1,4 @@
-//! The program's order of the calls of a history that overlap.
+//! The program's order of the overlapping calls of a history.
 ghost use Rattle.std.specs.Prelude.{◌≡◌, ◌≤◌, false, IfOk, OnOk};
 ghost use Rattle.mesh_run.specs.Orders.{EndsOrder, HasToldOrder};
 ghost use Rattle.mesh_run.specs.Runs.{IsSound};

@@ -16,12 +16,12 @@ use std::alloc::Global;
 /// Follows the recorded history in the input on two heaps, writes what meshing saves to the output, as a table or a
 /// plot, and returns the exit status. Any fault is written to `errors`.
 ///
-/// The status is 0 with the whole table or plot. The status is 1 if a heap has no virtual pages left for the `new` of
-/// call N. Then the table or plot has the calls before N, and the line is `addresses used up at call N`.
+/// The status is 0 with the whole table or plot. The status is 1 if a heap has too few virtual pages left for the `new`
+/// of call N. Then the table or plot has the calls before N, and the line is `addresses used up at call N`.
 ///
-/// The status is 1 with the line `line L: not a history`, `read fault`, `write fault` or `out of memory`. It is 2 with
-/// the line `line L: KIND` if the text has a fault before anything else. If the line can't be written, the status is
-/// the same.
+/// The status is 1 with the line `line L: not a history`, `read fault`, `write fault` or `out of memory`. The status is
+/// 2 with the line `line L: KIND` if the text has a fault, and the report didn't stop for another reason before this
+/// fault. If the line can't be written, the status is the same.
 pub fn savings_run<I: Source, O: Sink, E: Sink>(
     alloc: Global,
     args: &SavingsArgs,
@@ -70,8 +70,8 @@ fn options_of(args: &SavingsArgs) -> SavingsOptions
     }
 }
 
-/// Reports on the history in the input and writes the table or the plot. Returns the call for which a heap had no
-/// virtual pages left, if there is one.
+/// Reports on the history in the input, and writes the table or the plot. Returns the call for which a heap had too few
+/// virtual pages left, if there is such a call.
 fn write_report<I: Source, O: Sink>(
     alloc: Global,
     input: &mut I,

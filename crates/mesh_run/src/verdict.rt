@@ -67,7 +67,7 @@ pub(crate) fn verdict_run<I: Source, O: Sink, E: Sink, W: Watch>(
     }
 }
 
-/// Writes the verdict, and returns whether all is well.
+/// Writes the verdict, and returns whether the outcomes meet the criteria.
 fn write_verdict<I: Source, O: Sink, W: Watch>(
     alloc: Global,
     args: &ExploreArgs<'_>,

@@ -28,7 +28,7 @@ pub enum Point {
     Reading(u32),
 }
 
-/// A hook that threads call at each point. The call may wait. Its contract promises nothing.
+/// A hook that threads call at each point. The call may wait, and its contract promises nothing.
 pub trait Gate {
     /// Reports that an actor has arrived at a point.
     fn arrive(&self, actor: Actor, point: Point);

@@ -1,9 +1,9 @@
 //! Laws of the definitions of runs. Each is the contract of a function that does nothing.
 ghost use Rattle.mesh_shared.specs.RunLaws.{ExchangedIsNoBeginning, ExchangedIsNoRun, FirstAloneIsNoRun, NothingIsToldOfNone, StrangerIsNoBeginning, StrangerIsNoRun, ToldIsFirst, ToldIsThere, WholeIsRun, WithoutLastIsBegun, WithoutLastIsNoRun};
 
-/// Examples of histories that are a run of two scripts, and of four histories that aren't. The first lacks a worker's
-/// last command, and in the second only one script is whole. The third has an entry of a worker that doesn't exist, and
-/// in the fourth the commands of two workers are exchanged.
+/// Examples of histories that are a run of two scripts, and of four histories that aren't. Of these four histories, the
+/// first lacks a worker's last command, and in the second only one script is whole. The third has an entry of a worker
+/// that doesn't exist, and in the fourth the commands of two workers are exchanged.
 pub fn runs_are_whole()
     ensures whole { WholeIsRun }
     ensures begun { WithoutLastIsBegun }
@@ -16,7 +16,7 @@ pub fn runs_are_whole()
 {}
 
 /// If several threads stopped, the reported stop is the first in the order allocation failure, thread fault, full
-/// journal. No stop is reported only if no thread was stopped.
+/// journal. If no stop is reported, no thread was stopped.
 pub fn first_stop_is_told()
     ensures there { ToldIsThere }
     ensures first { ToldIsFirst }

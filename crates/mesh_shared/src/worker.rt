@@ -43,7 +43,8 @@ impl<'a> Promise<Served> for Works<'a> {
 }
 
 /// Makes the calls of a script, one after another, and records them in `seat`, which must be empty. While a command is
-/// `Blocked`, it is retried, at most `tries` times in all. Ends at a command that stays blocked, and at a stop.
+/// `Blocked`, the worker attempts it again. If `tries` is a number, it limits the attempts at each command: the calls
+/// end if the last allowed attempt is `Blocked`. They also end at a stop.
 pub(crate) fn serve<R: Wait, G: Gate>(
     rt: &R,
     gate: &G,

@@ -108,7 +108,7 @@ impl Heap {
         Ok(self.fetch(object, off, len))
     }
 
-    /// Stores 1 to 32 bytes from offset `off` of an object on. The call allocates nothing.
+    /// Stores 1 to 32 bytes in an object, from offset `off` on. The call allocates nothing.
     ///
     /// The store is refused with FREED if the object isn't live, and otherwise with OUTSIDE if the range ends past the
     /// object. If neither applies, a store that would write to a read-only page is blocked. A refused or blocked call

@@ -8,8 +8,8 @@
 //! only reads the job. `Turns` runs a plan line by line.
 //!
 //! `mesh_job` defines the job and reads its file. `mesh_spelling` defines the text of an answer. In contracts, an input
-//! device has the bytes that are left to read, and an output device has the bytes that it has accepted, as far as they
-//! are known. Both have a flag whether one of their calls has failed.
+//! device has the bytes that are left to read, and an output device has the bytes that it has accepted, as far as these
+//! bytes are known. Each device also has a flag that is true if a call of the device has failed.
 #![tactic(auto)]
 
 mod mesher;

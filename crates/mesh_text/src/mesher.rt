@@ -26,8 +26,8 @@ pub(crate) fn pair(alloc: Global, book: &Book, asked: &Search) -> Result<Found, 
     search_one(alloc, &view, asked.words.as_slice(), asked.rounds)
 }
 
-/// Begins a mesh, and returns the number of its steps, or the refusal. A mesh is refused as BUSY in version 1 if a mesh
-/// of any class runs, and in version 2 if a mesh of the class of one of the two groups runs.
+/// Begins a mesh, and returns the number of its steps, or the refusal. The refusal BUSY applies in version 1 if a mesh
+/// of any class runs, and in version 2 if a mesh of the groups' class runs.
 pub(crate) fn begin(
     book: &mut Book,
     version: Version,
@@ -66,8 +66,8 @@ pub(crate) fn cancel_first(book: &mut Book) -> Result<u32, Refusal>
     }
 }
 
-/// Meshes two groups with all steps of the mesh, and returns the number of meshed pages, or the refusal. The mesh is
-/// refused as BUSY in the same cases as in `begin`.
+/// Meshes two groups with all steps of the mesh, and returns the number of freed physical pages, or the refusal. The
+/// refusal BUSY applies in the same cases as for `begin`.
 pub(crate) fn whole(
     book: &mut Book,
     version: Version,

@@ -13,7 +13,8 @@ use mesh_devices::{ReplayError, Sink, Source, write_lines};
 use mesh_job::Job;
 use std::alloc::Global;
 
-/// The size, in bytes, from which collected answer lines are written to the output.
+/// Collected answer lines are written to the output once they have at least this number of bytes, and at the end of the
+/// plan.
 const CHUNK_BYTES: usize = 8192;
 
 /// Replays the job file that the input contains, and writes the answer lines of its plan.

@@ -153,8 +153,9 @@ impl Turns {
         }
     }
 
-    /// Attempts a worker's next command, and appends the answer, or `over` if the worker has no command left. Only
-    /// after a reply, the worker's place is advanced to the next command. The only error is an allocation failure.
+    /// Attempts a worker's next command, and appends the answer, or `over` if the worker has no command left. If the
+    /// attempt gets a reply, the worker's place is advanced to the next command. Otherwise, the place stays the same.
+    /// The only error is an allocation failure.
     fn run(&mut self, worker: u32, script: &Script, text: &mut Vec<u8>) -> Result<(), AllocError>
         requires { worker < vec_len self.old.next }
         ensures workers { vec_len self.new.next ≡ vec_len self.old.next }

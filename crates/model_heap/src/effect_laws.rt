@@ -39,8 +39,8 @@ pub fn pages_change_alone()
     ensures free { FreeIsOfOne }
 {}
 
-/// A copy writes the byte at each copied offset of the source's span to this offset of the destination's span. This
-/// requires that no two copied offsets have one place in the destination's span. The copy changes no other byte.
+/// A copy writes the byte at each copied offset of the source's span to the same offset of the destination's span. This
+/// is true if no two copied offsets have the same place in the destination's span. The copy changes no other byte.
 pub fn copied_bytes_are_the_same()
     ensures copied { CopiedAreTheSame }
     ensures others { OtherBytesStay }

@@ -1,33 +1,34 @@
-//! Laws of the memory that a heap means, under a read, a store, a free and a new object. Each law is the contract of a
-//! function that does nothing.
+//! Laws of the memory that a heap represents, under a read, a store, a free and a new object. Each law is the contract
+//! of a function that does nothing.
 ghost use Rattle.model_heap.specs.MeaningLaws.{MeaningHasNext, MeaningHasObjects, SameBytesSameMeaning, StoreChangesMeaning, FreeChangesMeaning, NewChangesMeaning, ReadGivesBytes, ByteIsAtItsPlace, LiveObjectsAreApart, HolderIsOne, NoneIsHolder, SlotIsTheOnlyOne, TiedRecordsAreBelow, SlotHasRecord, RecordHasSlot};
 
-/// The memory that a heap means has the heap's next serial. If the serials of all records are below the next serial,
-/// the memory contains the object of each serial's record, and no other object.
+/// The memory that a heap represents has the heap's next serial. If the serials of all records are below the next
+/// serial, the memory contains the object of each serial's record, and no other object.
 pub fn meaning_has_objects()
     ensures next { MeaningHasNext }
     ensures objects { MeaningHasObjects }
 {}
 
-/// If no serial's record changes, and no byte of a recorded object changes, the memory that the heap means doesn't
+/// If no serial's record changes, and no byte of a recorded object changes, the memory that the heap represents doesn't
 /// change. The bytes may be stored at other places than before.
 pub fn meaning_stays_with_bytes()
     ensures { SameBytesSameMeaning }
 {}
 
 /// If bytes are written at the places of a part of one object, and no other byte of a live object changes, the heap
-/// means its memory before with these bytes stored in that object.
+/// then represents its earlier memory with these bytes stored in that object.
 pub fn store_changes_meaning()
     ensures { StoreChangesMeaning }
 {}
 
-/// If an object is removed from the table, the heap means its memory before without that object.
+/// If an object whose serial is below the next serial is removed from the table, the heap then represents its earlier
+/// memory without that object.
 pub fn free_changes_meaning()
     ensures { FreeChangesMeaning }
 {}
 
-/// If an object of zeros is placed in a sound table, and no byte of a live object changes, the heap means its memory
-/// before with that object added.
+/// If an object of zeros is placed in a sound table, and no byte of a live object changes, the heap then represents its
+/// earlier memory with that object added. This requires that all serials in the table are below the next serial.
 pub fn new_changes_meaning()
     ensures { NewChangesMeaning }
 {}
@@ -51,8 +52,9 @@ pub fn slots_are_only_ones()
     ensures { SlotIsTheOnlyOne }
 {}
 
-/// If a sound table is tied to the memory that its heap means, each filled slot has the record of the slot's serial,
-/// and all serials of records are below the next serial. In a sound table, each record is the record of a filled slot.
+/// If a sound table is tied to the memory that its heap represents, the record of a filled slot's serial is the record
+/// of that slot, and the serials of all records are below the next serial. In a sound table, each record is the record
+/// of a filled slot.
 pub fn records_are_of_slots()
     ensures below { TiedRecordsAreBelow }
     ensures slot { SlotHasRecord }

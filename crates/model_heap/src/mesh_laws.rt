@@ -1,5 +1,5 @@
-//! Laws of running meshes: how their steps are counted, that at most one runs per class, and when a step or a cancel is
-//! refused. Each is the contract of a function that does nothing.
+//! Laws of running meshes: how the steps of a mesh are counted, that at most one mesh of each class is running, and
+//! when a step or a cancel is refused. Each law is the contract of a function that does nothing.
 ghost use Rattle.model_heap.specs.MeshLaws.{WholeIsAllSteps, StepsLeaveGroups, UnwindingLeavesGroups, CancelLeavesGroups, BeginAnswersAllSteps, BeginLeavesSteps, StepTakesOne, LastStepEnds, OthersKeepTheirSteps, StepsCountDown, CancelAnswersLeft, CancelOfNoneEnds, WholeIsAllStepsOfClass, WholeIsAllStepsAlone, WholeIsAllStepsBeside, SoundHasOneAClass, BeginKeepsOneAClass, WholeKeepsOneAClass, StepKeepsOneAClass, CancelKeepsOneAClass, MeshInIsOfClass, ClassHasMesh, StepIsRefusedWithoutMesh, CancelIsRefusedWithoutMesh, CancelIsRefusedLate, CancelHasTwoRefusals};
 
 /// `begin` returns the number of all steps of the mesh. After `begin`, this number of steps is left.
@@ -48,9 +48,9 @@ pub fn mesh_of_class_is_found()
     ensures some { ClassHasMesh }
 {}
 
-/// A step of a class is refused if and only if no mesh of the class is running, with NO_MESH. A cancel is refused with
-/// NO_MESH in the same case. It is refused with TOO_LATE if and only if the class's running mesh has remapped a page. A
-/// cancel has no other refusal.
+/// A step of a class is refused if and only if no mesh of the class is running. The refusal is NO_MESH. A cancel of a
+/// class is refused with NO_MESH if and only if no mesh of the class is running, and with TOO_LATE if and only if the
+/// class's running mesh has remapped a page. A cancel has no other refusal.
 pub fn steps_and_cancels_are_refused()
     ensures step { StepIsRefusedWithoutMesh }
     ensures none { CancelIsRefusedWithoutMesh }

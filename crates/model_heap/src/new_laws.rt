@@ -2,8 +2,8 @@
 //! that does nothing.
 ghost use Rattle.model_heap.specs.NewLaws.{RefusedByAddresses, NewTakesLowestOpen, NewTakesSpan};
 
-/// A new object is placed in the lowest open group of its class, in the free slot that the word picks. It is placed in
-/// a new span if and only if no group of its class is open.
+/// In a sound table, a new object is placed in the lowest open group of its class, in the free slot that the word
+/// picks. If and only if no group of its class is open, the object is placed in a new span.
 pub fn new_takes_lowest()
     ensures group { NewTakesLowestOpen }
     ensures span { NewTakesSpan }

@@ -1,4 +1,4 @@
-//! Laws of places, and examples of the memory that a heap means. Each law is the contract of a function that does
+//! Laws of places, and examples of the memory that a heap represents. Each law is the contract of a function that does
 //! nothing.
 ghost use Rattle.model_heap.specs.PlaceLaws.{PlacesAreByPage, NoObjectMeansNone, ObjectsMeanTheirBytes, SlotsHaveRecords, ObjectsAreHeld, HoldsWhereLed, ProtectionLeavesPlaces};
 
@@ -8,8 +8,9 @@ pub fn places_are_by_page()
     ensures { PlacesAreByPage }
 {}
 
-/// Examples: a heap means a memory with the objects of its filled slots. Each object has its address, and the bytes at
-/// the places of its addresses. A physical page holds an object if and only if the object has a byte in the page.
+/// Examples: a heap represents a memory with the objects of the heap's filled slots. Each object has its address, and
+/// the bytes at the places of its addresses. A physical page holds an object if and only if the object has a byte in
+/// the page.
 pub fn heaps_mean_their_objects()
     ensures none { NoObjectMeansNone }
     ensures bytes { ObjectsMeanTheirBytes }

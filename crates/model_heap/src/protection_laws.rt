@@ -15,8 +15,8 @@ pub fn read_only_by_steps()
     ensures unwound { UnwoundIsWritable }
 {}
 
-/// A virtual page is read-only if and only if it is in the source of a running mesh, and the mesh's progress says that
-/// it is protected. A store is blocked if and only if one of its addresses is in a read-only page.
+/// A virtual page is read-only if and only if it is a page of the source of a running mesh, and this mesh's progress
+/// makes the page read-only. A store is blocked if and only if one of its addresses is in a read-only page.
 pub fn stores_are_blocked_by_pages()
     ensures pages { ReadOnlyByMeshes }
     ensures blocked { BlockedByPages }

@@ -16,7 +16,7 @@ pub fn sweeps_are_refused_by_lowest()
 {}
 
 /// A step and a cancel in a sound table are refused with the lowest refusal that holds, and succeed if and only if none
-/// holds. Both are of the first running mesh that passes a test. The test may be any.
+/// holds. The step or the cancel is that of the first running mesh that passes a test. The law is true for each test.
 pub fn steps_are_refused_by_lowest()
     ensures step { StepIsRefusedByLowest }
     ensures cancel { CancelIsRefusedByLowest }

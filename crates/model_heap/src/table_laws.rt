@@ -45,8 +45,8 @@ pub fn groups_are_sound()
     ensures own { PageIsOfOneGroup }
 {}
 
-/// A group is open to new objects if it is of the class, is in no mesh, and has a free slot. The group that the search
-/// for an open group returns is open.
+/// A group is open to new objects of a class if and only if the group is of this class, is in no mesh, and has a free
+/// slot. If the search for an open group returns a group, this group is open.
 pub fn groups_are_open()
     ensures tests { OpenIsByTests }
     ensures found { FoundIsOpen }

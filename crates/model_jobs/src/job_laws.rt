@@ -1,4 +1,4 @@
-//! Laws of a job's run: its history is legal, and its pages are counted. Each law is the contract of a function that
+//! Laws of a job's run: its history is legal, and its page counts add up. Each law is the contract of a function that
 //! does nothing.
 ghost use Rattle.model_jobs.specs.JobLaws.{AnsweredIsStep, InitialIsRunning, AnswerKeepsRunning, LinesKeepRunning, HistoryIsLegal, RepliesAreRecorded, EntriesBeginScripts, JobsKeepCount, ReportsAddUp};
 
@@ -16,8 +16,8 @@ pub fn jobs_keep_running()
     ensures lines { LinesKeepRunning }
 {}
 
-/// The history of a job is legal after any lines of a plan. The replies that these lines answer are the replies of the
-/// history's entries, in the same order.
+/// The history of a job is legal after any lines of a plan. The replies among the answers to these lines are the
+/// replies of the history's entries, with the same workers and in the same order.
 pub fn history_is_legal()
     ensures legal { HistoryIsLegal }
     ensures replies { RepliesAreRecorded }
@@ -28,8 +28,8 @@ pub fn entries_begin_scripts()
     ensures { EntriesBeginScripts }
 {}
 
-/// A job's pages are counted after any lines of its plan. In each report, the saved and the taken pages add up to the
-/// mapped pages.
+/// After any lines of a job's plan, the free pages and the pages of all spans add up to the job's physical pages plus
+/// the released pages. In each report, the saved and the taken pages add up to the mapped pages.
 pub fn job_pages_are_counted()
     ensures jobs { JobsKeepCount }
     ensures reports { ReportsAddUp }

@@ -7,7 +7,7 @@ pub fn answers_are_refused_by_lowest()
     ensures { AnswerIsLowest }
 {}
 
-/// A command is blocked if and only if no refusal holds and it touches a read-only page.
+/// A command is blocked if and only if no refusal holds and the command would write to a read-only page.
 pub fn unrefused_commands_are_held_back()
     ensures { HeldBackUnrefused }
 {}

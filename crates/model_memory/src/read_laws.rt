@@ -10,8 +10,8 @@ pub fn built_is_legal()
 {}
 
 /// If a journal is legal, the recorded calls of the seats are its entries, and all reads of the seats are right, each
-/// worker's entries in the built history are its seat's calls, in order. If each worker with an entry in the journal
-/// has a seat, each worker with an entry in the built history has a seat.
+/// worker's entries in the built history are the calls of the worker's seat, in order. If each worker with an entry in
+/// the journal has a seat, each worker with an entry in the built history has a seat.
 pub fn built_has_calls()
     ensures calls { BuiltHasCalls }
     ensures no_other { BuiltHasNoOther }
@@ -29,7 +29,9 @@ pub fn few_are_made()
 {}
 
 /// Examples. A seat with a call of another book differs from the journal. A seat also differs if it lacks a call that
-/// the journal records. The other examples are two built histories, and reads that are in place and out of place.
+/// the journal records. Two other examples each state the history that is built from a journal and seats. The last
+/// examples state, for some reads, whether the number of entries that the read saw fits the calls before and after the
+/// read, and the journal's length.
 pub fn reads_are_told()
     ensures strange { StrangeReadDiffers }
     ensures recorded { RecordedDiffers }

@@ -3,8 +3,8 @@
 ghost use Rattle.model_memory.specs.RefusalLaws.{PlainIsRefusedByLowest, StepRepliesLowest};
 
 /// The reference memory's function (`plain`) refuses a command with the lowest refusal that holds, and does the command
-/// if and only if no refusal holds. A reference step has the lowest refusal that holds as its reply, and no refusal if
-/// and only if none holds. The law of the step doesn't cover a `new` of 1 to 2,048 bytes.
+/// if and only if no refusal holds. A reference step replies with the lowest refusal that holds, and replies without a
+/// refusal if and only if no refusal holds. The law of the step doesn't cover a `new` of 1 to 2,048 bytes.
 pub fn commands_are_refused_by_lowest()
     ensures plain { PlainIsRefusedByLowest }
     ensures step { StepRepliesLowest }

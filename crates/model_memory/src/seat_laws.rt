@@ -2,9 +2,10 @@
 //! is the contract of a function that does nothing.
 ghost use Rattle.model_memory.specs.SeatLaws.{CallsHaveCommands, SeatsAreAll, SwappedSeatsAreMissing, StrangersAreMissing, EntriesHaveSeats, FirstDifferenceIsOne, MissingIsLeast, NoneIsMissing, SeatsDifferOnce, SettledDifferNowhere, SeatsSettleOrDiffer};
 
-/// The missing seat is the lowest place below the count that doesn't have the seat with the place's number. If each
-/// place has its own seat, but there is a stranger, the count is the missing seat. A stranger is a seat too many, or an
-/// entry of a worker without a seat. In all other cases no seat is missing.
+/// A place has its own seat if the seat at the place has the place's number. The missing seat is the lowest place below
+/// the count that doesn't have its own seat. If all places below the count have their own seats, but there is a
+/// stranger, the missing seat is the count. A stranger is a seat beyond the count, or an entry of a worker whose number
+/// isn't below the count. In all other cases no seat is missing.
 pub fn missing_seat_is_least()
     ensures some { MissingIsLeast }
     ensures none { NoneIsMissing }
@@ -22,8 +23,9 @@ pub fn calls_have_commands()
     ensures { CallsHaveCommands }
 {}
 
-/// If no seat is missing, each place has its own seat and there is no stranger. Examples: a missing seat is reported if
-/// seats are swapped, too few or too many, or if there is an entry of a worker without a seat.
+/// If no seat is missing, each place below the count has the seat with the place's number, and there is no stranger: no
+/// seat beyond the count, and no entry of a worker without a seat. Examples: a missing seat is reported if seats are
+/// swapped, too few or too many, or if there is an entry of a worker without a seat.
 pub fn missing_seats_are_told()
     ensures all { SeatsAreAll }
     ensures swapped { SwappedSeatsAreMissing }

@@ -17,8 +17,8 @@ pub fn search_tries()
     ensures few { ProbesAreFew }
 {}
 
-/// A shuffled list of numbers has each number as often as the list has it. Each candidate of a shuffled list of
-/// candidates is in the list.
+/// A shuffle doesn't change how often a number occurs in a list of numbers. Each candidate of a shuffled list was in
+/// the list before the shuffle.
 pub fn shuffles_keep()
     ensures numbers { ShufflesKeepNumbers }
     ensures candidates { ShufflesPick }

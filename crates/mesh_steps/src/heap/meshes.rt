@@ -112,8 +112,8 @@ impl Heap {
         self.pages.first_running()
     }
 
-    /// Begins a mesh, and returns the number of its steps. The errors are those of `begin`, except that `busy` says
-    /// which running meshes are BUSY.
+    /// Begins a mesh, and returns the number of its steps. The errors are those of `begin`, except that `busy`
+    /// determines which running meshes cause the refusal BUSY.
     fn start(&mut self, source: u32, destination: u32, busy: Busy) -> Result<u32, Refusal>
         ensures { IsAnswered KeepsMeaning self.old self.new
             (begin (busy_by busy) (table_of self.old) source destination) result

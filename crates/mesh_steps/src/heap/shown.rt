@@ -46,8 +46,8 @@ impl Heap {
     /// Returns the physical page at index `place` in the list of a group's pages, or `None` if there is no such page.
     /// The class determines the number of pages.
     ///
-    /// The last steps of a mesh from the group free these pages one by one. They stay in the list until the mesh has
-    /// ended.
+    /// If the group is the source of a mesh, the last steps of the mesh free the group's pages one by one. The freed
+    /// pages stay in the list until the mesh has ended.
     pub fn home(&self, group: u32, place: usize) -> Option<u32>
         ensures { result ≡ home_at (index_of self.now) group place }
     {

@@ -150,7 +150,8 @@ impl Answer {
 /// An answer as its name and its numbers: the form that is compared and printed in failure messages.
 pub(crate) type Told = (&'static str, [u64; 5]);
 
-/// The answer of a store that was done. `BLOCKED` is the answer of a store that was blocked.
+/// The answer of a store, a copy or a `free` that was done. `BLOCKED` is the answer of a store or a copy that was
+/// blocked.
 pub(crate) const DONE: Told = ("Done", [0; 5]);
 
 pub(crate) const BLOCKED: Told = ("Blocked", [0; 5]);
@@ -181,7 +182,7 @@ pub(crate) fn refused(refusal: Refusal) -> Told {
     (refusal.name(), [refusal.number() as u64, 0, 0, 0, 0])
 }
 
-/// The answer to whether a mesh runs.
+/// The answer of a call that returns whether a mesh runs.
 pub(crate) fn running(runs: bool) -> Told {
     if runs {
         ("Runs", [0; 5])

@@ -98,8 +98,8 @@ static LONG: Start = Start {
     ..FOUR
 };
 
-/// Sixteen objects in four groups, of which one object is left in each group, in four different slots. The groups are
-/// then meshed in pairs.
+/// Sixteen objects are made in four groups, and all but one object of each group are freed. The four objects that are
+/// left are in four different slots. The groups are then meshed in pairs.
 static MESHED_TWICE: Start = Start {
     objects: 16,
     len: 1024,
@@ -174,8 +174,8 @@ fn play<R: Abort + AllocGlobal>(
     tried.play(calls);
 }
 
-/// The steps of the mesh of the two groups, each with a read of the copied object after it. Calls on the meshed group
-/// follow.
+/// The steps of the mesh of the two groups, each followed by a read of the copied object. After the last of these reads
+/// come calls on the meshed group.
 static READ_AT_EACH_STEP: [(Call, Answer); 19] = [
     (Call::Step(2048), Answer::Stepped(StepKind::Protect, 5)),
     (Call::Read(2, 0, 1), Answer::Bytes(1, 0xab)),
@@ -203,8 +203,8 @@ fn reads_are_answered_at_each_step(rt: HostRuntime) {
     played(&rt, &BEGUN, &READ_AT_EACH_STEP);
 }
 
-/// Stores and reads while the second group's page is read-only, after its remap while it is still read-only, and once
-/// it is writable again.
+/// Stores and reads at three times in a mesh: while the second group's page is read-only, after the page is remapped
+/// but is still read-only, and once the page is writable again.
 static STORED_AT_STEPS: [(Call, Answer); 16] = [
     (Call::Step(2048), Answer::Stepped(StepKind::Protect, 5)),
     (Call::Write(2, 0, &[0xcd]), Answer::Blocked),
@@ -272,7 +272,8 @@ fn a_mesh_makes_room(rt: HostRuntime) {
     played(&rt, &TWO_PAGES, &ROOM_MADE);
 }
 
-/// A mesh that begins again after a cancel. Its own cancel comes after its first remap and is refused.
+/// A mesh of two groups whose first mesh was cancelled. A cancel of the new mesh comes after the first remap and is
+/// refused.
 static BEGUN_AGAIN: [(Call, Answer); 8] = [
     (Call::Step(2048), Answer::Refused(Refusal::NoMesh)),
     (Call::Write(2, 0, &[0xee]), Answer::Done),
@@ -308,7 +309,8 @@ fn a_further_cancel_changes_nothing(rt: HostRuntime) {
     played(&rt, &BEGUN, &CANCELLED_TWICE);
 }
 
-/// A new object in the slot to which the cancelled mesh had copied. It has zero bytes.
+/// A new object in the slot to which the cancelled mesh had copied, and a read of the object's first byte, which is
+/// zero.
 static HIDDEN: [(Call, Answer); 2] = [
     (Call::New(2048, 0), Answer::Made(4, 0x1000)),
     (Call::Read(4, 0, 1), Answer::Bytes(1, 0x00)),
@@ -562,8 +564,8 @@ fn a_source_of_two_members_goes_page_by_page(rt: HostRuntime) {
     played(&rt, &MESHED_TWICE, &PAGE_BY_PAGE);
 }
 
-/// Two meshes of different classes that run at the same time. One is cancelled, the other is finished, and calls after
-/// both follow.
+/// Two meshes of different classes that run at the same time: one is cancelled, and the other is finished. The last
+/// calls are made after the end of both meshes.
 static ONE_IN_EACH: [(Call, Answer); 24] = [
     (Call::Running(2048), Answer::Runs(false)),
     (Call::Begin(1, 0), Answer::Left(6)),

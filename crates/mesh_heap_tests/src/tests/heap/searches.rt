@@ -5,8 +5,8 @@ use mesh_search::{ClassView, Pair, search_one};
 use mesh_steps::{Heap, Ref};
 use std::process::Abort;
 
-/// The number of objects of the class 2048, two in each group. `FREED` names the ones to free, which leaves one object
-/// in each of four groups.
+/// The number of objects of the class 2048 that are made, two in each group. `FREED` lists the serials of the four
+/// objects that are then freed, so that one object is left in each of four groups.
 const OBJECTS: u8 = 8;
 
 static FREED: [u8; 4] = [1, 3, 4, 6];
@@ -68,7 +68,8 @@ fn free(rt: &impl Abort, heap: &mut Heap, serial: u8) {
     assert!(rt; heap.free(object(serial)).is_ok());
 }
 
-/// Asserts the results of searches in a heap's view of the class 2048, made alone and as the last of all views.
+/// Asserts the results of searches in a heap's view of the class 2048. The view is made twice: by itself, and as the
+/// last of the views of all classes.
 fn check_heap(rt: &(impl Abort + AllocGlobal), heap: &Heap, class: Class) {
     check_four(rt, &heap.view(rt.alloc(), class).expect(rt, "memory"));
     let views = heap.views(rt.alloc()).expect(rt, "memory");
@@ -95,7 +96,8 @@ fn a_heap_is_searched_by_its_own_view(rt: HostRuntime) {
     search_heap(&rt, &mut heap);
 }
 
-/// Asserts the results of searches in a book's view of the class 2048, made alone and as the last of all views.
+/// Asserts the results of searches in a book's view of the class 2048. The view is made twice: by itself, and as the
+/// last of the views of all classes.
 fn check_book(rt: &(impl Abort + AllocGlobal), book: &Book, class: Class) {
     check_four(rt, &book.view(rt.alloc(), class).expect(rt, "memory"));
     let views = book.views(rt.alloc()).expect(rt, "memory");

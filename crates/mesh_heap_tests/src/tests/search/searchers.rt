@@ -189,7 +189,8 @@ impl Arrivals {
     }
 }
 
-/// Returns the place, in ascending order, of the class with this slot size.
+/// Returns the place of the class with this slot size in the ascending list of the ten classes. Returns `None` if no
+/// class has this slot size.
 fn place_of(size: u32) -> Option<u32> {
     SIZES
         .iter()
@@ -235,7 +236,7 @@ fn each_searcher_arrives_once_at_each_class(rt: HostRuntime) {
     check_arrivals(&rt, all.get(9..10).expect(&rt, "a class"), 2, &[9]);
 }
 
-/// Asserts that in a search of views by two searchers each of them arrives once at each of these places, and nowhere
+/// Asserts that, in a search of views by two searchers, each searcher arrives once at each of these places and nowhere
 /// else.
 fn check_arrivals<R: Threads + Wait + Sync + Abort + AllocGlobal>(
     rt: &R,
@@ -256,7 +257,8 @@ fn check_counts(rt: &impl Abort, counted: Option<u64>, counts: u64, t: u32, clas
     assert_eq!(rt; counted, Some(counts), "in {t} rounds of {classes} views");
 }
 
-/// The greatest number of checks of a waiting searcher. `TURN` is its sleep before each check, in microseconds.
+/// The greatest number of times that a waiting searcher checks whether the other searcher has arrived. `TURN` is the
+/// searcher's sleep after each check that fails, in microseconds.
 const TURNS: u32 = 1_000_000;
 
 const TURN: u64 = 10;

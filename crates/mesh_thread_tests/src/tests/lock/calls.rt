@@ -76,7 +76,7 @@ fn checked(rt: &impl Abort, len: u32) -> u32
     len
 }
 
-/// Returns a store of 1 to 32 bytes. Asserts that there are so many.
+/// Returns a store of these bytes. Asserts that there are 1 to 32 bytes.
 fn put(rt: &impl Abort, cell: u8, off: u32, bytes: &[u8]) -> Command
     ensures { IsInRange result }
 {

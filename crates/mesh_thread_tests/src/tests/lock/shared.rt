@@ -21,7 +21,7 @@ use std::thread::{Threads, join};
 use std::time::Duration;
 
 /// Returns a book with this number of pages and a journal of this capacity, behind a lock. The book has one seat for
-/// each of the counts, and a seat has room for so many calls.
+/// each of the counts. A seat's count is the number of calls that the seat has room for.
 fn opened(
     rt: &(impl Abort + AllocGlobal),
     pages: u32,
@@ -294,7 +294,8 @@ fn taken(
     seats
 }
 
-/// Returns the fault of `finish` if it gets the seats at these places after these turns.
+/// Opens two books, makes the calls of these turns, and calls `finish` with the seats at these places. Returns the
+/// fault that `finish` returns.
 fn told(
     rt: &(impl Abort + AllocGlobal + Wait),
     turns: &[Turn],
@@ -311,7 +312,7 @@ fn told(
     fault_of(rt, own, seats)
 }
 
-/// Returns the fault with which a book refuses to be finished with these seats. Asserts that there is one.
+/// Returns the fault that `finish` returns for this book and these seats. Asserts that there is a fault.
 fn fault_of(rt: &(impl Abort + AllocGlobal), shared: Shared, seats: Vec<Seat>) -> FinishError {
     let ended = shared.finish(rt.alloc(), seats);
     ended.err().expect(rt, "a fault")
@@ -374,8 +375,9 @@ impl Meshing {
     }
 }
 
-/// Makes a mesher's call under the lock. Returns the kind of a step, or `None` for another call, and the number of
-/// steps left, or of pages freed.
+/// Makes a mesher's call under the lock, and returns two values. The first is the kind of the step, or `None` if the
+/// call isn't a step. The second is the number of steps left or, for a sweep, the number of pages freed. The error is
+/// the refusal of the call.
 fn meshed(
     rt: &impl Wait,
     shared: &Shared,
@@ -405,7 +407,7 @@ static CANCELLED: [(Meshing, Option<StepKind>, u32); 4] = [
 /// The sweep of an empty group, which frees one page.
 static SWEPT: [(Meshing, Option<StepKind>, u32); 1] = [(Meshing::Sweep(0), None, 1)];
 
-/// Asserts that a mesher's calls have the expected results. Each call takes the lock for itself.
+/// Asserts that a mesher's calls have the expected results. The lock is taken separately for each call.
 fn play(
     rt: &(impl Abort + Wait),
     shared: &Shared,
@@ -492,13 +494,14 @@ fn the_book_is_the_one_handed_in(rt: HostRuntime) {
     check_count(&rt, used(&rt, 1, 3, Usage::Full).entries, 3);
 }
 
-/// The greatest number of times that a reader checks whether the other reader came. `TURN` is its sleep after each
-/// check, in microseconds.
+/// The greatest number of times that a reader checks whether the other reader has the lock too. `TURN` is the reader's
+/// sleep after each check, in microseconds.
 const TURNS: u32 = 1_000_000;
 
 const TURN: u64 = 10;
 
-/// Takes the lock for reading and keeps it until another reader has it too. Returns whether the other reader came.
+/// Takes the lock for reading, and keeps the lock until another reader has it too, or until `TURNS` checks were made.
+/// Returns whether the other reader took the lock in this time, and the journal is empty.
 fn meets<R: Clock + Wait>(rt: &R, shared: &Shared, own: &AtomicBool, other: &AtomicBool) -> bool {
     let book = shared.book.read(rt);
     own.store(true, SeqCst);

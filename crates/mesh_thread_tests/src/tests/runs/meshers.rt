@@ -166,8 +166,9 @@ fn marks_of(rt: &(impl Abort + AllocGlobal), events: &[Event]) -> Vec<Mark> {
     marks
 }
 
-/// Runs the scripts of a course, asserts the expected course, and returns the result. If `calls` is a number, each
-/// mesher is abandoned after so many calls.
+/// Runs these scripts with the gate of a course, and returns the result. Asserts that all events of the course occurred
+/// in the required order, and that no thread waited in vain. If `calls` is a number, each mesher is abandoned after
+/// this number of calls.
 fn ran<R: Abort + AllocGlobal + Clock + Threads + Wait + Sync>(
     rt: &R,
     course: &Course,
@@ -480,8 +481,8 @@ fn two_scripts_read_at_once(rt: HostRuntime) {
     check_entries(&rt, &seen, (1, 1));
 }
 
-/// The cells of fourteen of sixteen objects of the class 512, from cell 4 on. If these objects are freed, two groups
-/// with one object each are left, and the two groups can be meshed.
+/// Fourteen of the cells 4 to 19, which name sixteen objects of the class 512. If the objects of these fourteen cells
+/// are freed, two groups with one object each are left, and the two groups can be meshed.
 const OF_SMALL_GROUPS: &[u8] = &[4, 5, 6, 7, 8, 9, 10, 13, 14, 15, 16, 17, 18, 19];
 
 /// A run in which each of two meshers stops after a copy until the other mesher has made a copy too.
