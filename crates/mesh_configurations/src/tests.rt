@@ -75,7 +75,7 @@ impl Calls for Register {
     }
 }
 
-/// The begin of the next call, or the end of the call with a number. Calls are numbered from 0 in the order of their
+/// The start of the next call, or the end of the call with this number. Calls are numbered from 0 in the order of their
 /// starts.
 #[derive(Clone, Copy)]
 enum Event {
@@ -174,9 +174,9 @@ fn count_of(configurations: &Pool<Configuration<Word>>, value: u64) -> usize {
     count
 }
 
-/// Returns the refutation of a load of 9 at its end. Before the load, a store of 1 begins, and a store of 2 begins and
-/// ends. At most `most` configurations may be met. Returns `None` if no call is refuted, or if the judge returned an
-/// error.
+/// Returns the refutation at the end of a load that found 9. Before the load, a store of 1 begins, and a store of 2
+/// begins and ends. At most `most` configurations may be met. Returns `None` if no call is refuted, or if the judge
+/// returned an error.
 fn refuted_load(alloc: Global, most: usize) -> Option<Refutation<Register>> {
     let mut judge = Judge::<Register>::new(alloc, Word { value: 0 }).ok()?;
     let _open = judge.begin(store(1)).ok()?;
@@ -204,7 +204,8 @@ fn a_refuted_load_is_returned_with_the_states_that_were_met(rt: HostRuntime) {
     assert!(rt; refuted_load(rt.alloc(), 3).is_none());
 }
 
-/// An access, with the number of the event at which it began, and of the event at which it ended if it did.
+/// An access, with the number of the event at which the access began. If the access has ended, also the number of the
+/// event at which it ended.
 #[derive(Clone, Copy)]
 struct Timed {
     access: Access,

@@ -1,7 +1,7 @@
 //! `CallBudget`: the number of calls allowed, and the number made.
 ghost use Rattle.std.specs.Prelude.{◌≡◌, ℕ, ◌≤◌, ◌↔◌, suc, IsTrue, Some};
 
-/// The number of calls allowed, and the number made. If there is a limit, the type keeps the number made within it.
+/// The number of calls allowed, and the number made. If there is a limit, the number made is never above the limit.
 #[derive(Clone, Copy)]
 pub struct CallBudget {
     /// The number of calls allowed. `None` if there is no limit.

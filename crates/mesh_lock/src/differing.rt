@@ -1,4 +1,4 @@
-//! Compares a seat's recorded calls with its worker's entries. It allocates nothing.
+//! Compares a seat's recorded calls with the entries of the seat's worker, and allocates nothing.
 ghost use Rattle.std.specs.Prelude.{◌≡◌, ◌↔◌, ℕ, ◌^◌, ◌<◌, ◌≤◌, ◌∷◌, IsTrue, IfSome, None, length};
 ghost use Rattle.std.specs.List.{All};
 ghost use Rattle.model_memory.specs.Reads.{call_of, kept_by, recorded};

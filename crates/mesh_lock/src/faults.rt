@@ -14,15 +14,15 @@ pub enum OpenError {
     Memory,
 }
 
-/// The reason why seats and journal don't form a history.
+/// The reason why the seats and the journal don't form a history.
 ///
 /// The first of `SeatMissing`, `SeatDiffers` and `ReadDiffers` that applies is returned, but `Memory` may take the
 /// place of `ReadDiffers`. Which seat and which call an error names is this project's own choice.
 #[derive(Debug, Drop, PartialEq, Eq, Error)]
 pub enum FinishError {
     /// The first place, below the expected number of seats, whose seat is missing or doesn't have the place's number.
-    /// If there is no such place, it is the expected number of seats: more seats were passed in, or the journal has an
-    /// entry of a worker without a seat.
+    /// If there is no such place, the field is the expected number of seats. In this case more seats were passed in, or
+    /// the journal has an entry of a worker without a seat.
     #[error("SEAT_MISSING {0}")]
     SeatMissing(u32),
     /// The first seat whose recorded calls differ from its worker's entries in the journal, and the first place at
@@ -34,8 +34,8 @@ pub enum FinishError {
         /// The place of the difference among the seat's calls that aren't reads, counted from 0.
         call: usize,
     },
-    /// A read whose answer differs from the reference memory's answer at the read's place in the journal, or that can't
-    /// have that place. It is the first such read of the first seat that has one.
+    /// A read whose answer differs from the reference memory's answer at the read's place in the journal, or a read
+    /// that can't be at its place in the journal. The error names the first such read of the first seat that has one.
     #[error("READ_DIFFERS {seat}, {call}")]
     ReadDiffers {
         /// The seat's number.

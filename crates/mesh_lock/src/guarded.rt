@@ -1,4 +1,4 @@
-//! The calls of a mutator on the book while it holds the lock.
+//! The calls that a mutator makes on the book while the mutator holds the lock.
 //!
 //! A lock's contract says nothing about the value it guards, so these functions take the `Book` itself and carry the
 //! full contract. A call takes the lock and runs one of these functions.

@@ -16,8 +16,9 @@ use mesh_plain::Plain;
 use model_memory::read_laws::few_are_made;
 use std::alloc::{AllocError, Global};
 
-/// Builds the history of a journal and seats whose recorded calls are its entries, in one walk of the journal. Returns
-/// ReadDiffers if a read is wrong, or Memory if an allocation fails.
+/// Builds the history of a journal and seats, in one walk of the journal. The recorded calls of each seat must be the
+/// entries of the seat's worker in the journal, and each entry's worker must have a seat. Returns ReadDiffers if a read
+/// is wrong, or Memory if an allocation fails.
 ///
 /// After a wrong read, only the seats with lower numbers are examined further, because a wrong read of such a seat is
 /// reported instead.
@@ -79,7 +80,8 @@ fn unless_told(history: Vec<Entry>, told: Option<(u32, usize)>) -> Result<Vec<En
     }
 }
 
-/// Returns the remaining calls of each seat before the walk: all its calls. The only error is an allocation failure.
+/// Returns, for each seat, the calls that remain before the walk: all calls of the seat. The only error is an
+/// allocation failure.
 fn rests_of<'a>(alloc: Global, seats: &'a [Seat]) -> Result<Vec<Rest<'a>>, AllocError>
     ensures rests { IfOk result (λ rests. rests.items ≡ calls_of_seats seats.now) }
     ensures kept { OnOk result ((w : ℕ) → All IsKept (kept_by (calls_of_seats seats.now) w)) }
@@ -123,8 +125,8 @@ fn first_left<'a>(rests: &[Rest<'a>]) -> Option<usize>
     None
 }
 
-/// If a seat was found, stores the place of its first remaining call in `told`, and removes this seat and those above
-/// it from `rests`.
+/// If `found` is a seat, stores in `told` the seat and the place of the seat's first remaining call. Then removes this
+/// seat and the seats with higher numbers from `rests`.
 fn tell<'a>(
     seats: &[Seat],
     rests: &mut Vec<Rest<'a>>,

@@ -2,7 +2,7 @@
 ghost use Rattle.mesh_placement.specs.ClassLaws.{ObjectsFitPages};
 
 /// In a sound table, let `k` be the smallest number of spans that have a slot for each object of a class. Then the
-/// groups of the class have at least the physical pages of `k` spans.
+/// groups of the class together have at least as many physical pages as `k` spans.
 pub fn objects_fit_pages()
     ensures { ObjectsFitPages }
 {}

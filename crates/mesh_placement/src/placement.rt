@@ -106,9 +106,10 @@ impl Placement {
         self.next_serial == u32::MAX
     }
 
-    /// Makes an object of `len` bytes with the next serial. Its slot is the one that a heap would choose: a slot of the
-    /// lowest group of its class that has a free slot, or else of a new span. `word` selects one of the free slots.
-    /// `is_full` must be false before the call.
+    /// Makes an object of `len` bytes with the next serial. The object's slot is the one that a heap would choose. It
+    /// is in the group with the lowest number among the groups of the object's class that have a free slot. If there is
+    /// no such group, it is in a new span. `word` selects one of the free slots. `is_full` must be false before the
+    /// call.
     ///
     /// The error is the first that applies, in this order: ZERO, TOO_LARGE, NO_ADDRESSES. If none applies, but the
     /// allocation for a new span fails, the error is `Memory`. NO_PAGES is never returned, because there are always
@@ -210,7 +211,7 @@ impl Placement {
         self.next_page - 1
     }
 
-    /// The counts over all groups: objects, their bytes, and the virtual pages of members. It visits no group.
+    /// The counts over all groups: objects, their bytes, and the virtual pages of members. The call visits no group.
     pub fn totals(&self) -> Totals
         ensures objects { result.objects ≡ sum_by object_count (table_of self.now).groups }
         ensures bytes { result.bytes ≡ sum_by byte_count (table_of self.now).groups }
@@ -219,7 +220,8 @@ impl Placement {
         self.spans.totals()
     }
 
-    /// The physical pages of the groups of each class, in the order of the class table. It visits no group.
+    /// The number of physical pages of the groups of each class, in the order of the class table. The call visits no
+    /// group.
     pub fn pages_by_class(&self) -> &[u32; 10]
         ensures value { result.now ≡ map (λ row. class_pages (table_of self.now) row.size) table }
         ensures few { All (λ n. n ≤ 65538) result.now }
@@ -227,7 +229,7 @@ impl Placement {
         self.class_pages.by_class()
     }
 
-    /// The objects of each class, in the order of the class table. It visits no group.
+    /// The number of objects of each class, in the order of the class table. The call visits no group.
     pub fn objects_by_class(&self) -> &[u32; 10]
         ensures value { result.now ≡ map (λ row. class_objects (table_of self.now) row.size) table }
         ensures few { All (λ n. n ≤ 2 ^ 24) result.now }

@@ -1,4 +1,5 @@
-//! Each expected text was worked out by hand from the rules, and none was copied from a run.
+//! The tests. The expected tables of `savings` were printed by another engine. Every other expected text was worked out
+//! by hand from the rules, and none was copied from a run.
 
 use mesh_program_tests::memory::Ran;
 use std::fmt::Display;

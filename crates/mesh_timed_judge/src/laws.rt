@@ -14,8 +14,8 @@ pub fn all_are_explained<O: Calls>()
     ensures { AllAreExplained O.effect }
 {}
 
-/// If no configuration is left, no order of effects explains the calls that the judge has followed. The same holds with
-/// any further calls that begin after all ended calls have ended.
+/// If no configuration is left, no order of effects explains the calls that the judge has followed. The same holds if
+/// further calls follow, and each of them begins after the end of each call that has ended so far.
 pub fn none_explains<O: Calls>()
     ensures { NoneExplains O.effect }
 {}

@@ -74,7 +74,7 @@ impl Calls for Register {
     }
 }
 
-/// The begin or the end of the call with a number.
+/// The start or the end of the call with a number.
 #[derive(Clone, Copy)]
 enum Event {
     Begins(u32, Access),

@@ -10,7 +10,8 @@
 //! - `meshrun check FILE` judges a recorded history.
 //! - `meshrun savings FILE ..` reports what meshing would save for a recorded history.
 //!
-//! With `--history`, `replay` and `threads` print the journal as a recorded history.
+//! With `--history`, `replay` prints the journal as a recorded history, and `threads` prints one recorded history of
+//! all scripts' commands.
 #![tactic(auto)]
 
 ghost use Rattle.std.specs.Prelude.{◌≡◌, false};
@@ -29,7 +30,7 @@ use std::sync::Wait;
 use std::thread::Threads;
 use std::{env, io};
 
-/// The path that means standard input.
+/// The path by which the command line names standard input.
 const STANDARD_INPUT: &str = "-";
 
 fn main(rt: HostRuntime) -> ExitCode {
@@ -133,7 +134,7 @@ fn run_on<R: Threads + Wait + Sync, I: Source + Drop, O: Sink + Drop, E: Sink + 
     }
 }
 
-/// Explores, and returns the exit status. While it explores, prints the number of states found so far on standard
+/// Explores, and returns the exit status. During the exploration, prints the number of states found so far on standard
 /// error, if standard error is a terminal or the arguments ask for progress.
 fn explore<I: Source, O: Sink, E: Sink>(
     rt: &HostRuntime,

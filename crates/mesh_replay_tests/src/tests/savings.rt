@@ -15,14 +15,15 @@ no call|history 1\n|calls 0  objects at most 0  above 2048: 0, at most 0 pages, 
 a larger object and a load|history 1\n0 new 0 16 0 -> object 0 at 1000\n0 new 1 2049 0 -> object 1 at 2000\n0 get 0 0 1 -> bytes 00\n0 free 0 -> done\n|calls 3  objects at most 1  above 2048: 1, at most 1 pages, not meshed\npages              without     with  saved  perfect  live bytes\npeak                     1        1   0.0%        1           1\nmean of calls            1        1   0.0%        1           1\nend                      1        1   0.0%        0           0\nmost saved  0 of 1 pages (0.0%) at call 1\nmeshes 0  refused 0  copied 0.0 MB  rounds 0  virtual pages 1\nclass 16    mean     1 ->     1  perfect     1  end     1 ->     1  perfect     0\n#\
 a mesh|history 1\n0 new 0 2048 0 -> object 0 at 1000\n0 new 1 2048 0 -> object 1 at 2000\n0 new 2 2048 0 -> object 2 at 3000\n0 new 3 2048 0 -> object 3 at 4000\n0 alias 4 3 -> done\n0 free 0 -> done\n0 free 4 -> done\n|calls 7  objects at most 4  above 2048: 0, at most 0 pages, not meshed\npages              without     with  saved  perfect  live bytes\npeak                     2        2   0.0%        2           2\nmean of calls            2        2   0.0%        2           2\nend                      2        1  50.0%        1           1\nmost saved  1 of 2 pages (50.0%) at call 7\nmeshes 1  refused 0  copied 0.0 MB  rounds 1  virtual pages 2\nclass 2048  mean     2 ->     2  perfect     2  end     2 ->     1  perfect     1\n";
 
-/// Texts with a fault, in rows like those of `TABLES`. No table is printed for these texts. The last field is the line
-/// of the fault.
+/// Texts with a fault, in rows like those of `TABLES`. No table is printed for these texts. The last field is the
+/// printed line that reports the fault.
 static FAULTS: &str = "\
 an empty file||line 1: CUT\n#\
 a line that is cut off|history 1\n0 new 3 4 7 -> object 9 at 1000\n0 free 3 -> done|line 3: CUT\n#\
 a fault before what is no history|history 1\n0 run 3 -> done\n0 free 3 -> done\n|line 2: WORD\n";
 
-/// Texts whose calls are not a history, in rows like those of `TABLES`. The last field is the line of the fault.
+/// Texts whose calls are not a history, in rows like those of `TABLES`. The last field is the printed line that reports
+/// the fault.
 static NO_HISTORIES: &str = "\
 a free of an empty cell|history 1\n0 new 3 4 7 -> object 9 at 1000\n0 free 4 -> done\n0 run 3\n|line 3: not a history\n#\
 a free of a freed object|history 1\n0 new 3 4 7 -> object 9 at 1000\n0 alias 4 3 -> done\n0 free 4 -> done\n0 free 3 -> done\n|line 5: not a history\n";
