@@ -177,8 +177,8 @@ impl Tracked {
         Ok(object.byte(object.offset_of(address)))
     }
 
-    /// Stores bytes from offset `off` of the object that `cell` names, for the entry on a line. The error is the first
-    /// that applies, in this order: EMPTY, FREED, OUTSIDE, Memory.
+    /// Stores bytes in the object that `cell` names, from offset `off` on, for the entry on a line. The error is the
+    /// first that applies, in this order: EMPTY, FREED, OUTSIDE, Memory.
     pub fn put(
         &mut self,
         line: u32,

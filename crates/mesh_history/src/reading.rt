@@ -226,8 +226,8 @@ fn entry_at(lines: u32, line: &[u8]) -> Result<RecordedEntry, ReadFault>
     }
 }
 
-/// Returns the fault of a line that is too long and follows `lines` lines: LONG_LINE, or TOO_LONG if the line is one
-/// too many.
+/// Returns the fault of a line with too many bytes after `lines` earlier lines. The fault is LONG_LINE, or TOO_LONG if
+/// the text already has the greatest number of lines, 4,294,967,295.
 fn long_line(lines: u32) -> ReadFault
     ensures { result ≡ ReadFault.Text (long_line lines) }
 {

@@ -75,8 +75,8 @@ fn reaches(object: &Stored, address: u32) -> bool
     object.address <= address && ((address - object.address) as usize) < object.bytes.len()
 }
 
-/// Stores bytes from offset `off` in the live object of a serial. The error is the first that applies, in this order:
-/// `Freed`, `Outside`.
+/// Stores bytes in the live object of a serial, from offset `off` on. The error is the first that applies, in this
+/// order: `Freed`, `Outside`.
 pub fn overwrite(
     objects: &mut BTreeMap<u32, Stored>,
     serial: u32,

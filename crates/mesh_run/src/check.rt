@@ -14,9 +14,9 @@ use mesh_devices::{Sink, Source, write_lines};
 use mesh_judge::{Begun, CallVerdict, Judgement, Verdict, judge, judgement_line};
 use std::alloc::Global;
 
-/// Judges the recorded history in the input, writes the line of its verdict to the output or its fault to `errors`, and
-/// returns the exit status. A history of overlapping calls isn't decided if an object has more than `most`
-/// configurations at the end of a call.
+/// Judges the recorded history in the input, and writes the line of the verdict to the output. If there is no verdict,
+/// writes the reason to `errors`. Returns the exit status. A history of overlapping calls isn't decided if an object
+/// has more than `most` configurations at the end of a call.
 ///
 /// The status is:
 ///

@@ -9,8 +9,8 @@ use mesh_devices::{Sink, Source};
 use mesh_draw::{DrawOptions, draw};
 use std::alloc::Global;
 
-/// Draws the plan of the job in the input, writes the picture to the output and a fault to `errors`, and returns the
-/// exit status.
+/// Draws the plan of the job in the input, and writes the picture to the output. If the run stops with an error, writes
+/// the error's line to `errors`. Returns the exit status.
 ///
 /// The exit status and the line in `errors` are those of `replay_run`. Nothing is written to the output if the input
 /// failed or its text has a fault.

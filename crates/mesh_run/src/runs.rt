@@ -17,8 +17,8 @@ use mesh_devices::{ReplayError, Sink, Source, write_all};
 use mesh_text::{replay, replay_recorded};
 use std::alloc::Global;
 
-/// Replays the job in the input, writes its answers to the output and its fault to `errors`, and returns the exit
-/// status.
+/// Replays the job in the input, and writes the answers to the output. If the run stops with an error, writes the
+/// error's line to `errors`. Returns the exit status.
 ///
 /// The status is 0 if everything was written. It is 1 with the line `read fault`, `write fault` or `out of memory`, and
 /// 2 with the line `line N: KIND` if the job's text has a fault. If the line can't be written, the status is the same.
@@ -39,8 +39,8 @@ pub fn replay_run<I: Source, O: Sink, E: Sink>(
     finished(errors, outcome)
 }
 
-/// Replays the job in the input, writes the recorded history of its journal to the output and its fault to `errors`,
-/// and returns the exit status.
+/// Replays the job in the input, and writes the job's journal to the output as a recorded history. If the run stops
+/// with an error, writes the error's line to `errors`. Returns the exit status.
 ///
 /// The exit status and the line in `errors` are those of `replay_run`. Nothing is written to the output before the plan
 /// is over.

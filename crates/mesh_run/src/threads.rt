@@ -29,8 +29,8 @@ use std::sync::Wait;
 use std::thread::Threads;
 
 /// Runs the scripts of the job in the input, each on a thread of its own while meshers search and mesh. Writes the
-/// answers of each worker and the number of all entries to the output, or a fault to `errors`, and returns the exit
-/// status. The file's plan isn't used.
+/// answers of each worker and the number of all entries to the output. If the run stops with an error, writes the
+/// error's line to `errors` instead. Returns the exit status. The file's plan isn't used.
 ///
 /// The status is 0 if everything was written. Nothing is written to the output before all threads have ended. The
 /// status is 2, and nothing is run, in two cases:
