@@ -226,8 +226,8 @@ fn entry_at(lines: u32, line: &[u8]) -> Result<RecordedEntry, ReadFault>
     }
 }
 
-/// Returns the fault of a line with too many bytes after `lines` earlier lines. The fault is LONG_LINE, or TOO_LONG if
-/// the text already has the greatest number of lines, 4,294,967,295.
+/// Returns the fault for a line that has too many bytes. `lines` is the number of lines before it. The fault is
+/// LONG_LINE, or TOO_LONG if there are already 4,294,967,295 lines, the greatest number.
 fn long_line(lines: u32) -> ReadFault
     ensures { result ≡ ReadFault.Text (long_line lines) }
 {

@@ -162,8 +162,8 @@ fn end_fault(lines: u32, rest: &[u8]) -> Option<TextFault>
     Some(fault_at(lines + 1, rest_fault(rest)))
 }
 
-/// Returns the fault of a line with too many bytes after `lines` earlier lines. The fault is LONG_LINE, or TOO_LONG if
-/// the text already has the greatest number of lines, 4,294,967,295.
+/// Returns the fault for a line that has too many bytes. `lines` is the number of lines before it. The fault is
+/// LONG_LINE, or TOO_LONG if there are already 4,294,967,295 lines, the greatest number.
 fn long_line(lines: u32) -> TextFault
     ensures { result ≡ long_line lines }
 {

@@ -1,4 +1,4 @@
-//! The first outcome of a listing that matches a pattern.
+//! Finds the first outcome, among those of a listing, that matches a pattern.
 ghost use Rattle.std.specs.Prelude.{◌≡◌, ◌<◌, [], ℕ, None, IfOk, IfSome, length, slice_index_or};
 ghost use Rattle.mesh_verdict.specs.Judged.{HaveStates};
 ghost use Rattle.mesh_verdict.specs.Never.{IsForbidden, IsMatchAt};

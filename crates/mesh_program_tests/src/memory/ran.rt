@@ -1,4 +1,4 @@
-//! The outputs of a run whose devices are in memory.
+//! The outputs of a run whose inputs and outputs are in memory.
 ghost use Rattle.std.specs.Prelude.{◌≡◌, false};
 ghost use Rattle.mesh_run.specs.Runs.{IsSound};
 
