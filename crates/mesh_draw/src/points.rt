@@ -17,7 +17,7 @@ use std::alloc::{AllocError, Global};
 /// A bound on the number of lines of a plan: a job file has at most 1 MiB.
 pub(crate) const MAX_LINES: usize = 1_048_576;
 
-/// The number of buffered bytes of a picture from which the buffer is written.
+/// After each point, the buffer of a picture is written if it has at least this number of bytes.
 const CHUNK_BYTES: usize = 8192;
 
 /// The point after a line of a job's plan: the line with its answer as a replay prints it, and the heap after the line.

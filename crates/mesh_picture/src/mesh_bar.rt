@@ -17,7 +17,7 @@ const NAME: u32 = 1_080;
 /// The least width of the part of a bar that represents one kind of step.
 const LEAST: u32 = 820;
 
-/// The greatest width by which a bar exceeds the least width of its parts.
+/// The greatest width by which a bar exceeds the sum of the least widths of its five parts.
 const MOST_MORE: u32 = 3_200;
 
 /// Draws a bar for each running mesh of a frame into a card of width `card`.
