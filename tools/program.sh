@@ -22,3 +22,11 @@ make_room() {
     room=$(mktemp -d) || exit 2
     trap 'rm -rf "$room"' EXIT
 }
+
+# build_plain: builds tools/engines/replay, the plain engine of job files, in `room`, and sets `plain` to the program.
+# Ends the tool with status 2 if the engine can't be built. It needs cargo.
+build_plain() {
+    plain=$room/engine/release/plain
+    cargo build --quiet --release --offline --manifest-path tools/engines/replay/Cargo.toml \
+        --target-dir "$room/engine" || exit 2
+}

@@ -1,5 +1,6 @@
 """Functions that run a program and measure its time, for the other tools in this folder."""
 import os
+import statistics
 import subprocess
 import sys
 import time
@@ -14,6 +15,24 @@ def run(command, nowhere):
     if status != 0:
         sys.exit(f"{' '.join(command)} ended with status {os.waitstatus_to_exitcode(status)}")
     return used.ru_utime + used.ru_stime, time.perf_counter() - start, used.ru_minflt
+
+
+def have_equal_outputs(commands):
+    """Whether all commands print the same text."""
+    texts = {subprocess.run(command, capture_output=True, check=False).stdout for command in commands}
+    return len(texts) == 1
+
+
+def by_turns(commands, runs):
+    """Runs commands by turns, `runs` times each. Returns the medians of each command's figures: processor seconds, wall
+    seconds and page faults."""
+    nowhere = os.open(os.devnull, os.O_RDWR)
+    figures = [[] for _ in commands]
+    for _ in range(runs):
+        for command, of_command in zip(commands, figures):
+            of_command.append(run(command, nowhere))
+    os.close(nowhere)
+    return [[statistics.median(column) for column in zip(*of_command)] for of_command in figures]
 
 
 def measured(room, words):

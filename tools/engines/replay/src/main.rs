@@ -1,0 +1,101 @@
+//! A plain meshing heap without proofs, for the times of `meshrun replay` and `meshrun threads`.
+//!
+//!     plain replay FILE
+//!     plain threads FILE ROUNDS PROBE SEED
+//!
+//! FILE is a job file of either version. `replay` prints the answer to each line of the plan. `threads` runs each
+//! script on a thread of its own, while another thread searches and meshes ROUNDS times, with at most PROBE rounds of
+//! tries in a search. It prints what `meshrun threads` prints.
+//!
+//! The status is 1 if FILE can't be read or the output fails, and 2 if the arguments or the text have a fault.
+//! tools/bench/replay.sh and tools/bench/lock.sh build and run it.
+mod answers;
+mod book;
+mod class;
+mod heap;
+mod job;
+mod mesh;
+mod number_set;
+mod reader;
+mod replay;
+mod search;
+mod threads;
+
+use std::fs::File;
+use std::io::{self, Read, Write};
+use std::process::ExitCode;
+use threads::Meshing;
+
+/// What ends the program without its output.
+enum Failure {
+    Usage,
+    Device(io::Error),
+    Text(reader::Fault),
+}
+
+impl From<io::Error> for Failure {
+    fn from(error: io::Error) -> Failure {
+        Failure::Device(error)
+    }
+}
+
+/// What the arguments ask for.
+enum Way {
+    Replay,
+    Threads(Meshing),
+}
+
+fn main() -> ExitCode {
+    match run() {
+        Ok(()) => ExitCode::SUCCESS,
+        Err(Failure::Usage) => {
+            eprintln!("usage: plain replay FILE, or plain threads FILE ROUNDS PROBE SEED");
+            ExitCode::from(2)
+        }
+        Err(Failure::Text(fault)) => {
+            eprintln!("line {}: {}", fault.line, fault.kind.name());
+            ExitCode::from(2)
+        }
+        Err(Failure::Device(error)) => {
+            eprintln!("{error}");
+            ExitCode::from(1)
+        }
+    }
+}
+
+fn run() -> Result<(), Failure> {
+    let words: Vec<String> = std::env::args().skip(1).collect();
+    let (way, path) = asked(&words).ok_or(Failure::Usage)?;
+    let text = read_text(path)?;
+    let job = reader::read(&text).map_err(Failure::Text)?;
+    let answers = match way {
+        Way::Replay => replay::replayed(&job),
+        Way::Threads(meshing) => threads::run(&job, &meshing),
+    };
+    io::stdout().write_all(&answers)?;
+    Ok(())
+}
+
+/// Reads the arguments. Returns the way and the path of the job file.
+fn asked(words: &[String]) -> Option<(Way, &str)> {
+    let way = match words.first()?.as_str() {
+        "replay" if words.len() == 2 => Way::Replay,
+        "threads" if words.len() == 5 => Way::Threads(Meshing {
+            rounds: words[2].parse().ok()?,
+            probe: words[3].parse().ok()?,
+            seed: words[4].parse().ok()?,
+        }),
+        _ => return None,
+    };
+    Some((way, &words[1]))
+}
+
+/// Reads a file, at most to one byte past the greatest length of a job file.
+fn read_text(path: &str) -> io::Result<Vec<u8>> {
+    let most = reader::MAX_BYTES as u64 + 1;
+    let file = File::open(path)?;
+    let length = file.metadata()?.len();
+    let mut text = Vec::with_capacity(length.min(most) as usize + 1);
+    file.take(most).read_to_end(&mut text)?;
+    Ok(text)
+}

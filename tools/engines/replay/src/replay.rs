@@ -1,0 +1,93 @@
+//! The replay of a job's plan.
+use crate::answers::Text;
+use crate::book::{Attempt, Book};
+use crate::job::{Job, Line};
+use crate::search::split_search;
+
+/// The answers to the lines of a job's plan.
+pub fn replayed(job: &Job) -> Vec<u8> {
+    let mut player = Player {
+        job,
+        book: Book::new(job.pages, job.history),
+        next: vec![0; job.scripts.len()],
+        text: Text::new(),
+    };
+    for line in &job.plan {
+        player.play(line);
+        player.text.end_line();
+    }
+    player.text.into_bytes()
+}
+
+struct Player<'a> {
+    job: &'a Job,
+    book: Book,
+    /// For each worker the number of its commands that were answered.
+    next: Vec<usize>,
+    text: Text,
+}
+
+impl Player<'_> {
+    fn play(&mut self, line: &Line) {
+        let heap = &mut self.book.heap;
+        let is_alone = self.job.version == 1;
+        match *line {
+            Line::Run(worker) => self.run(worker),
+            Line::Pair {
+                class,
+                rounds,
+                first,
+                count,
+            } => {
+                let candidates = heap.candidates(usize::from(class));
+                let words = &self.job.words[first as usize..][..usize::from(count)];
+                let found = split_search(&candidates, usize::from(rounds), words);
+                self.text.add_found(&found);
+            }
+            Line::Begin(source, destination) => {
+                let left = heap.begin(source, destination, is_alone);
+                self.text.add_count("left ", left);
+            }
+            Line::Step(class) => {
+                let class = self.class_of_mesh(class);
+                self.text.add_step(self.book.heap.step(class));
+            }
+            Line::Cancel(class) => {
+                let class = self.class_of_mesh(class);
+                self.text.add_count("left ", self.book.heap.cancel(class));
+            }
+            Line::Whole(source, destination) => {
+                let freed = heap.whole(source, destination, is_alone);
+                self.text.add_count("meshed ", freed);
+            }
+            Line::Sweep(group) => self.text.add_count("swept ", heap.sweep(group)),
+            Line::Report => self.text.add_report(&heap.report()),
+        }
+    }
+
+    fn run(&mut self, worker: u8) {
+        let next = &mut self.next[usize::from(worker)];
+        let Some(command) = self.job.scripts[usize::from(worker)].get(*next) else {
+            return self.text.add("over");
+        };
+        match self.book.attempt(worker, command) {
+            Attempt::Done(reply) => {
+                *next += 1;
+                self.text.add_reply(&reply);
+            }
+            Attempt::Blocked => self.text.add("blocked"),
+            Attempt::HistoryFull => self.text.add("history full"),
+        }
+    }
+
+    /// The class that a line names, or the class of the running mesh.
+    fn class_of_mesh(&self, class: Option<u8>) -> usize {
+        class.map_or_else(
+            || {
+                let meshes = &self.book.heap.meshes;
+                meshes.iter().position(Option::is_some).unwrap_or(0)
+            },
+            usize::from,
+        )
+    }
+}
