@@ -11,6 +11,12 @@ import sys
 from timed import by_turns, have_equal_outputs
 
 
+def text(used):
+    """The medians of a command as text."""
+    processor, wall, faults = used
+    return f"{processor * 1e3:14.2f}{wall * 1e3:10.2f}{faults:13.0f}"
+
+
 def main():
     """Prints a line for each file. Returns whether the two always print the same answers."""
     program, runs, engine, files = os.path.abspath(sys.argv[1]), int(sys.argv[2]), sys.argv[3], sys.argv[4:]
@@ -23,9 +29,8 @@ def main():
             print(f"{name:20} differs")
             return False
         ours, plain = by_turns(commands, runs)
-        texts = [f"{processor * 1e3:14.2f}{wall * 1e3:10.2f}{faults:13.0f}" for processor, wall, faults in (ours, plain)]
-        ratio = ours[0] / plain[0]
-        print(f"{name:20}{os.path.getsize(file):9}{texts[0]}         {texts[1][2:]}{ratio:7.2f}")
+        size, ratio = os.path.getsize(file), ours[0] / plain[0]
+        print(f"{name:20}{size:9}{text(ours)}         {text(plain)[2:]}{ratio:7.2f}")
     return True
 
 

@@ -63,7 +63,7 @@ pub fn are_disjoint(one: &[u64; 4], other: &[u64; 4]) -> bool {
 }
 
 impl Heap {
-    /// Returns the class of a mesh that may begin. `is_alone` tells that no other mesh may run.
+    /// Returns the class of a mesh that may begin. If `is_alone` is set, no other mesh may run.
     fn class_to_mesh(
         &self,
         source: u16,
