@@ -9,8 +9,8 @@ from cli import golden
 from cli.suite import NOTHING, execute, line, lines
 
 JOBS = pathlib.Path("jobs/explore")
-# Of these only the last outcome is tried, since they have many.
-LONG_LISTINGS = ("three_pages", "more_than_counted")
+# Of this job's many outcomes only the last is tried.
+LONG_LISTING = "three_pages"
 
 STORE = JOBS / "store_and_copy.job"
 ON_STORE = "explore", STORE, "--mesh", "1:0"
@@ -59,7 +59,7 @@ def exploration(suite, job):
     suite.check(name, 0, listing, NOTHING, *words)
     verdict = line(f"as expected: {len(outcomes)} outcomes")
     suite.check(f"{name}, as expected", 0, verdict, NOTHING, *words, "--expect", listing)
-    first = len(outcomes) - 1 if job.stem in LONG_LISTINGS else 0
+    first = len(outcomes) - 1 if job.stem == LONG_LISTING else 0
     for number, outcome in list(enumerate(outcomes))[first:]:
         witness(suite, f"{name}, outcome {number}", job, outcome, [*words, "--witness", number])
 
