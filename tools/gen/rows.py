@@ -198,10 +198,10 @@ def main():
         write_subject(name, rows)
     write_functions(subjects)
     (CRATE / "src" / "lib.rt").write_text(
-        "//! The worked examples as theorems: what the definitions of `model_jobs` give for each golden file "
-        "under `jobs/golden`.\n//!\n"
+        "//! The worked examples as theorems: what the definitions give for golden files under `jobs/golden`.\n//!\n"
         "//! Each function does nothing. Its clauses state that a file is replayed "
         "to the lines that were worked out by hand.\n"
+        "//! The one file of more than 1 MiB has no clause.\n"
         "//! Written by `tools/gen/rows.py`.\n"
         f"#![tactic(auto)]\n\nmod rows;\n\npub use rows::{{{', '.join(subjects)}}};\n")
     (CRATE / "specs" / "Rows.antt").write_text(ROW)
