@@ -8,8 +8,8 @@ crates/meshrun/out/meshrun. The workers of a job make objects and free most of t
 between searches, meshes, cancels, sweeps and reports. One file in ten has a changed byte, which mostly is a fault.
 
 A seed with which the two differ, in an output or a status, is a line of the output. The last line counts the files, the
-meshes to the last step and the blocked stores. The status is 1 if a file differs, and 2 if the engine can't be built.
-It needs cargo.
+meshes to the last step and the blocked stores. The status is 1 if a file differs, and 2 if there is no program or the
+engine can't be built. It needs cargo.
 """
 import pathlib
 import random
@@ -71,7 +71,7 @@ class RandomJob:
             "poke": lambda: f"{self.address()} {pick.randrange(256):02x}",
             "copy": lambda: f"{self.cell()} {self.offset()} {self.cell()} {self.offset()} {pick.choice([1, 32])}",
         }
-        weights = [25, 25, 12, 15, 4, 4, 6, 6, 6 if self.version == 2 else 0]
+        weights = [20, 40, 12, 10, 4, 4, 3, 6, 12 if self.version == 2 else 0]
         word = pick.choices(list(kinds), weights)[0]
         return f"{word} {kinds[word]()}"
 
@@ -106,7 +106,7 @@ class RandomJob:
             "report": 5,
         }
         line = pick.choices(list(lines), lines.values())[0]
-        return [line] * (pick.choice([1, 1, 4, 12, 50]) if line.startswith("step") else 1)
+        return [line] * (pick.choice([1, 1, 2, 5, 20]) if line.startswith("step") else 1)
 
     def text(self):
         """The job file, in one case of ten with a changed byte."""
@@ -137,7 +137,10 @@ def built(folder):
 
 def main():
     words = dict(enumerate(sys.argv[1:]))
-    first, program = int(words.get(1, 1)), words.get(2, PROGRAM)
+    first, program = int(words.get(1, 1)), pathlib.Path(words.get(2, PROGRAM))
+    if not program.exists():
+        print(f"no program at {program}: run `rt ci`, or `rt run` in crates/meshrun", file=sys.stderr)
+        return 2
     seeds = range(first, first + int(words.get(0, 1000)))
     differ = meshes = blocked = 0
     with tempfile.TemporaryDirectory() as folder:

@@ -66,14 +66,13 @@ impl Book {
     }
 
     /// Answers a command that only reads. Returns `None` for every other command.
-    pub fn read(&self, command: &Command) -> Option<Reply> {
-        let reply = match *command {
-            Command::Get { cell, off, len } => self.get(cell, off, len),
-            Command::Addr { cell } => self.address(cell),
-            Command::Peek { address } => self.heap.peek(address).map(Reply::Byte),
-            _ => return None,
-        };
-        Some(reply.unwrap_or_else(Reply::Refused))
+    pub fn read(&self, command: &Command) -> Option<Result<Reply, Refusal>> {
+        match *command {
+            Command::Get { cell, off, len } => Some(self.get(cell, off, len)),
+            Command::Addr { cell } => Some(self.address(cell)),
+            Command::Peek { address } => Some(self.heap.peek(address).map(Reply::Byte)),
+            _ => None,
+        }
     }
 
     fn named_by(&self, cell: u8) -> Result<Reference, Refusal> {
@@ -109,7 +108,6 @@ impl Book {
                 let object = self.named_by(cell)?;
                 stored(self.heap.write(object, u32::from(off), bytes.as_slice())?)
             }
-            Command::Get { cell, off, len } => Some(self.get(cell, off, len)?),
             Command::Free { cell } => {
                 self.heap.free(self.named_by(cell)?)?;
                 Some(Reply::Done)
@@ -120,8 +118,9 @@ impl Book {
                 self.cells[usize::from(to)] = Some(object);
                 Some(Reply::Done)
             }
-            Command::Addr { cell } => Some(self.address(cell)?),
-            Command::Peek { address } => Some(Reply::Byte(self.heap.peek(address)?)),
+            Command::Get { .. } | Command::Addr { .. } | Command::Peek { .. } => {
+                self.read(command).transpose()?
+            }
             Command::Poke { address, byte } => stored(self.heap.poke(address, byte)?),
             Command::Copy(copy) => {
                 let to = (self.named_by(copy.to)?, u32::from(copy.to_off));

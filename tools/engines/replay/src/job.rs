@@ -39,6 +39,16 @@ pub enum Command {
     Copy(CopyBytes),
 }
 
+impl Command {
+    /// Whether the command only reads.
+    pub fn is_read(&self) -> bool {
+        matches!(
+            self,
+            Command::Get { .. } | Command::Addr { .. } | Command::Peek { .. }
+        )
+    }
+}
+
 /// A copy of bytes from one object to another, or within an object.
 #[derive(Clone, Copy)]
 pub struct CopyBytes {

@@ -57,16 +57,12 @@ fn run_script(lock: &RwLock<Book>, worker: u8, script: &[Command]) -> Vec<Call> 
 }
 
 fn call(lock: &RwLock<Book>, worker: u8, command: &Command) -> Call {
-    let is_read = matches!(
-        command,
-        Command::Get { .. } | Command::Addr { .. } | Command::Peek { .. }
-    );
-    if is_read {
+    if command.is_read() {
         let book = lock.read().expect("no thread panics");
         if let Some(reply) = book.read(command) {
             return Call {
                 command: *command,
-                reply,
+                reply: reply.unwrap_or_else(Reply::Refused),
                 seen: Some(book.journal.len() as u32),
             };
         }
