@@ -13,8 +13,8 @@ import sys
 
 PAGE = pathlib.Path("docs/PROOF_COST.md")
 BEGIN, END = "<!-- crates: lines and mutants written by tools/proof/cost_table.py -->\n", "<!-- end of crates -->\n"
-HEAD = """| Crate | Code | Definitions | Proofs | Mutants tried each time | Other mutants | Seconds |
-|---|---|---|---|---|---|---|
+HEAD = """| Crate | Code | Definitions | Proofs | Mutants of `rt ci` | Mutants in groups | Other mutants | Seconds |
+|---|---|---|---|---|---|---|---|
 """
 
 
@@ -34,7 +34,7 @@ def row(crate, seconds):
     folder = pathlib.Path("crates") / crate
     parts = (("src", ".rt"), ("specs", ".antt"), ("proofs", ".antt"))
     lines = [lines_of(folder / name, suffix) for name, suffix in parts]
-    mutants = [len(list((folder / name).glob("*.edit"))) for name in ("must-fail", "mutants")]
+    mutants = [len(list((folder / name).glob("*.edit"))) for name in ("must-fail", "mutants", "mutants/more")]
     counts = lines + mutants
     return f"| `{crate}` | {' | '.join(map(str, counts))} | {seconds.get(crate, '')} |\n"
 
@@ -42,7 +42,7 @@ def row(crate, seconds):
 def seconds_of(table):
     """The seconds in a table, by crate."""
     rows = (line.strip("| ").split("|") for line in table.splitlines() if line.startswith("| `"))
-    return {cells[0].strip(" `"): cells[6].strip() for cells in rows if len(cells) > 6}
+    return {cells[0].strip(" `"): cells[7].strip() for cells in rows if len(cells) > 7}
 
 
 def main():
