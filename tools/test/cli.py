@@ -15,7 +15,7 @@ import pathlib
 import sys
 import tempfile
 
-from cli import check, draw, explore, histories, live, record, replay, savings, tables, threads
+from cli import check, draw, explore, histories, live, overlaps, record, replay, savings, tables, threads
 from cli.suite import Suite
 
 TOP = pathlib.Path(__file__).resolve().parents[2]
@@ -27,6 +27,7 @@ TESTED = {
     "explore": explore,
     "live": live,
     "check": check,
+    "overlaps": overlaps,
     "histories": histories,
     "record": record,
     "savings": savings,

@@ -1,6 +1,7 @@
 """Histories that allocators in C record, and those of calls that overlap, judged by another engine too."""
 
 import pathlib
+import socket
 import sys
 
 from cli.suite import NOTHING, SOME_TEXT, Run, execute, line
@@ -17,7 +18,9 @@ def cases(suite):
     for history in sorted(OVERLAPPING.glob("*.history")):
         overlapping(suite, history)
     racing_threads(suite)
-    long_lines(suite)
+    for version in (1, 2):
+        long_lines(suite, version)
+        failing_read(suite, version)
 
 
 def legal(history):
@@ -97,12 +100,25 @@ def faulty(suite, racing, threads):
     return history
 
 
-def long_lines(suite):
+def long_lines(suite, version):
     """Lines as long as they may be, and longer."""
     for name, text, fault in (
-        ("a line of 1,024 bytes", "0" * 1024 + "\n", "line 2: WORD"),
-        ("a line of 1,025 bytes", "0" * 1025 + "\n", "line 2: LONG_LINE"),
-        ("a long line that is cut off", "0" * 1025, "line 2: LONG_LINE"),
+        ("a line of 1,024 bytes", "0" * 1024 + "\n", "WORD"),
+        ("a line of 1,024 bytes that is cut off", "0" * 1024, "CUT"),
+        ("a line of 1,025 bytes", "0" * 1025 + "\n", "LONG_LINE"),
+        ("a long line that is cut off", "0" * 1025, "LONG_LINE"),
     ):
-        history = suite.write("long.history", f"history 1\n{text}".encode())
-        suite.check(f"check: {name}", 2, NOTHING, line(fault), "check", history)
+        history = suite.write("long.history", f"history {version}\n{text}".encode())
+        name = f"check: {name}, version {version}"
+        suite.check(name, 2, NOTHING, line(f"line 2: {fault}"), "check", history)
+
+
+def failing_read(suite, version):
+    """A connection that is reset when its lines have been read: it is closed before its own input was."""
+    ours, theirs = socket.socketpair()
+    ours.sendall(line(f"history {version}"))
+    theirs.sendall(b"unread")
+    ours.close()
+    with theirs:
+        name = f"check: a read that fails, version {version}"
+        suite.check(name, 1, NOTHING, line("read fault"), "check", "-", stdin=theirs)

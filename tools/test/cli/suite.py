@@ -3,6 +3,7 @@
 import itertools
 import os
 import pathlib
+import socket
 import subprocess
 import typing
 
@@ -28,7 +29,7 @@ class Run(typing.NamedTuple):
 
 
 def execute(command, stdin=NULL, full=None, variables=None):
-    """Runs a command to its end. Its standard input is a file, or a pipe if bytes are given.
+    """Runs a command to its end. Its standard input is a file or a socket, or a pipe if bytes are given.
 
     `full` is "stdout" or "stderr" if that is a full device. `variables` are added to the environment. The status is
     that of a shell: 127 if there is no such command, 128 and the number of the signal if one ended it.
@@ -39,6 +40,8 @@ def execute(command, stdin=NULL, full=None, variables=None):
             streams[full] = device
         if isinstance(stdin, bytes):
             streams["input"] = stdin
+        elif isinstance(stdin, socket.socket):
+            streams["stdin"] = os.dup(stdin.fileno())
         else:
             streams["stdin"] = os.open(stdin, os.O_RDONLY)
         try:

@@ -5,17 +5,20 @@ A case is a line of five fields, with two spaces or more between them:
     NAME  STATUS  OUTPUT  ERRORS  WORDS
 
 OUTPUT and ERRORS are what is printed on standard output and standard error: `-` for nothing, `any` for some text,
-`"TEXT"` for this line (`\n` in it begins another one), or else the file whose content it is.
+`"TEXT"` for this line (`\n` in it begins another one), `THESE` for lines below the case, or else the file whose
+content it is.
 
 WORDS are the words after the program's name, as in a shell. `cat PATH | WORDS` makes standard input a pipe, `<PATH` a
 file; it is /dev/null otherwise. `>/dev/full` and `2>/dev/full` make an output a full device.
 
 A line that is indented goes on with the fields. Indented lines that begin with `|` are those of the case's own file,
 which WORDS call FILE: what follows `| `, with the escapes of Python. A `\` at the end of a line removes its line end.
+Indented lines that begin with `>` are those that OUTPUT calls THESE, in the same form.
 
 `NAME = TEXT` defines $NAME for the lines below. `#` begins a comment.
 """
 
+import dataclasses
 import pathlib
 import re
 import shlex
@@ -28,40 +31,51 @@ FULL = {">/dev/full": "stdout", "2>/dev/full": "stderr"}
 
 def run(suite, path):
     """Runs the cases of a table."""
-    for head, own_lines in entries(path):
-        name, status, output, errors, words = re.split(" {2,}", f"{head}  ", maxsplit=4)
-        own_file = suite.write("own_file", content(own_lines))
+    for case in entries(path):
+        name, status, output, errors, words = re.split(" {2,}", f"{case.fields}  ", maxsplit=4)
+        own_file = suite.write("own_file", content(case.own))
         words, streams = command(words, own_file)
-        suite.check(name, int(status), text(output), text(errors), *words, **streams)
+        wanted = content(case.these) if output == "THESE" else text(output)
+        suite.check(name, int(status), wanted, text(errors), *words, **streams)
+
+
+@dataclasses.dataclass
+class Case:
+    """A case of a table: its fields as one line, the lines of its own file, and those that OUTPUT calls THESE."""
+
+    fields: str
+    own: list = dataclasses.field(default_factory=list)
+    these: list = dataclasses.field(default_factory=list)
 
 
 def entries(path):
-    """The cases of a table: the fields of each as one line, and the lines of its own file."""
+    """The cases of a table."""
     definitions = {}
     found = []
     for row in path.read_text().splitlines():
-        stripped = row.strip()
-        definition = re.fullmatch(r"(\w+) = (.*)", row)
-        if not stripped or row.startswith("#"):
+        if not row.strip() or row.startswith("#"):
             continue
+        spelt = string.Template(row.strip()).substitute(definitions)
+        definition = re.fullmatch(r"(\w+) = (.*)", spelt)
         if definition:
             definitions[definition[1]] = definition[2]
-        elif stripped.startswith("|"):
-            found[-1][1].append(stripped[1:].removeprefix(" "))
-        elif row.startswith(" "):
-            found[-1][0] += "  " + string.Template(stripped).substitute(definitions)
+        elif not row.startswith(" "):
+            found.append(Case(spelt))
+        elif spelt[0] in "|>":
+            case = found[-1]
+            (case.own if spelt[0] == "|" else case.these).append(spelt[1:].removeprefix(" "))
         else:
-            found.append([string.Template(stripped).substitute(definitions), []])
+            found[-1].fields += f"  {spelt}"
     return found
 
 
-def content(own_lines):
-    """The bytes of a case's own file."""
-    return unescaped("".join(f"{row}\n" for row in own_lines))
+def content(rows):
+    """The bytes of these lines of a table."""
+    return unescaped("".join(f"{row}\n" for row in rows))
 
 
 def unescaped(escaped):
-    return escaped.encode().decode("unicode_escape").encode()
+    return escaped.encode("latin-1").decode("unicode_escape").encode("latin-1")
 
 
 def text(field):

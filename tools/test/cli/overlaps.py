@@ -1,0 +1,123 @@
+"""Random histories of calls that overlap, and histories of many calls that are pending at once."""
+
+import collections
+import pathlib
+import random
+import sys
+
+from cli.check import order
+from cli.suite import NOTHING, line, lines
+
+sys.path.append(str(pathlib.Path(__file__).resolve().parents[2] / "engines/linearize"))
+import compare
+import orders
+import reference
+
+TINY = 1000
+LEAST = 100
+IN_ORDER, WITHOUT_ORDER, OUTSIDE_LIVES = "linearizable", "without order", "outside their lives"
+
+
+def cases(suite):
+    tiny_histories(suite)
+    source = random.Random(2026)
+    for number in range(60):
+        history = suite.write("random.history", lines(ordered_calls(source)))
+        order(suite, f"check --order: random history {number}", history)
+    pending(suite)
+    possible_loads(suite)
+
+
+def tiny_histories(suite):
+    """Random histories of up to 5 calls, each judged as a search over all orders judges it."""
+    source = random.Random(2026)
+    counts, faults = collections.Counter(), []
+    for number in range(TINY):
+        calls = list(tiny_calls(source))
+        text = lines(["history 2", *calls])
+        kind = kind_of(text.decode())
+        counts[kind] += 1
+        run = suite.run("check", suite.write("tiny.history", text))
+        word = run.output.split(b" ")[0]
+        if (run.status, word, run.errors) != ((0, b"linearizable", b"") if kind == IN_ORDER else (1, b"line", b"")):
+            faults.append(f"{number}, {calls}: {kind}")
+    few = [f"{counts[kind]} {kind}" for kind in (IN_ORDER, WITHOUT_ORDER, OUTSIDE_LIVES) if counts[kind] <= LEAST]
+    suite.report(f"overlaps: {TINY} random histories, as all orders of each have it", faults + few)
+
+
+def tiny_calls(source):
+    """The lines of 1 to 5 random calls on the objects of two cells. Cells, serials and offsets are 0 or 1."""
+    made, now = set(), 0
+    for worker in range(source.randint(1, 5)):
+        cell = source.choice((0, 0, 1))
+        deed = random_new(source, cell) if cell not in made or source.randrange(16) == 0 else random_call(source, cell)
+        made.add(cell)
+        yield f"{worker} {now} {now + source.randrange(4)} {deed}"
+        now += source.randrange(4)
+
+
+def random_new(source, cell):
+    """A `new` of one or two bytes, at one of four addresses."""
+    serial = source.choice((0, *[cell] * 7))
+    return f"new {cell} {source.randint(1, 2)} 0 -> object {serial} at 100{source.randrange(4)}"
+
+
+def random_call(source, cell):
+    """A `free`, a store or a load."""
+    offset, byte = source.choice((0, 0, 0, 1)), source.randrange(2)
+    store, load = f"put {cell} {offset} 0{byte} -> done", f"get {cell} {offset} 1 -> bytes 0{byte}"
+    return source.choice((f"free {cell} -> done", *[store] * 3, *[load] * 3))
+
+
+def kind_of(text):
+    """What a search over all orders finds of a history."""
+    if not compare.is_history(reference.calls_of_text(text)[0]):
+        return OUTSIDE_LIVES
+    return IN_ORDER if orders.is_linearizable(orders.calls_of_text(text)) else WITHOUT_ORDER
+
+
+def ordered_calls(source):
+    """The lines of a history of 40 random calls on an object of 4 bytes. Each has its effect at a moment of its own."""
+    calls, stored = [], [0] * 4
+    for worker in range(1, 41):
+        moment = 100 + 10 * worker
+        offset, word = source.randrange(4), source.choice(("put", "get", "addr"))
+        if word == "put":
+            stored[offset] = source.randrange(4)
+        deed = {
+            "put": f"put 0 {offset} {stored[offset]:02x} -> done",
+            "get": f"get 0 {offset} 1 -> bytes {stored[offset]:02x}",
+            "addr": "addr 0 -> at 1000",
+        }[word]
+        calls.append((moment - source.randrange(30), moment + source.randrange(30), worker, deed))
+    made = "0 0 1 new 0 4 9 -> object 5 at 1000"
+    return ["history 2", made, *(f"{worker} {begin} {end} {deed}" for begin, end, worker, deed in sorted(calls))]
+
+
+def pending(suite):
+    """As many accesses of an object as may be pending at once, and one more."""
+    made = ["history 2", "0 0 1 new 0 2 0 -> object 5 at 1000"]
+    addresses = [f"{worker} 2 9 addr 0 -> at 1001" for worker in range(1, 66)]
+    store = "0 2 9 put 0 0 07 -> done"
+    loads = [f"{worker} 3 8 get 0 0 1 -> bytes 07" for worker in range(1, 65)]
+    wrong = "line 3: no order explains at 1001; possible: at 1000"
+    undecided = "undecided at line 67: more than 64 pending accesses to one object"
+    for name, calls, verdict, *words in (
+        ("64 pending calls with a wrong answer", addresses[:-1], wrong),
+        ("65 pending calls with a wrong answer", addresses, undecided),
+        ("65 pending accesses", [store, *loads], undecided),
+        ("65 pending accesses in an order", [store, *loads], undecided, "--order"),
+    ):
+        history = suite.write("pending.history", lines([*made, *calls]))
+        suite.check(f"overlaps: {name}", 1, line(verdict), NOTHING, "check", history, *words)
+
+
+def possible_loads(suite):
+    """The least bytes that a load may have among pending stores: 8 of them, and dots for more."""
+    named = " | ".join(f"bytes 0{byte}" for byte in range(8))
+    for stores, more in ((7, ""), (9, " | ..")):
+        rows = ["history 2", "0 0 1 new 0 2 0 -> object 5 at 1000"]
+        rows += [f"{worker} 2 9 put 0 0 0{worker} -> done" for worker in range(1, stores + 1)]
+        history = suite.write("loads.history", lines([*rows, "99 3 4 get 0 0 1 -> bytes ff"]))
+        wanted = line(f"line {stores + 3}: no order explains bytes ff; possible: {named}{more}")
+        suite.check(f"overlaps: a load among {stores} pending stores", 1, wanted, NOTHING, "check", history)
