@@ -20,6 +20,3 @@ pub use faults::CallError;
 pub use inputs::CallInput;
 pub use laws::tests_tell_effects;
 pub use words::TimedCall;
-
-#[cfg(test)]
-mod tests;

@@ -36,6 +36,3 @@ pub use memory::Tracked;
 pub use reasons::{AddressRange, Difference, DifferentByte, LiveRefusal, Overlap, Reason};
 pub use texts::{add_recorded, verdict_line};
 pub use verdicts::Verdict;
-
-#[cfg(test)]
-mod tests;

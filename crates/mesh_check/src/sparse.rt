@@ -10,9 +10,6 @@ use std::alloc::{AllocError, Global};
 use std::collections::BTreeMap;
 use std::marker::Model;
 
-#[cfg(test)]
-mod tests;
-
 /// The bytes of one object, and for each byte the line that stored it last. Bytes that were never stored are 0. Only
 /// chunks in which some byte was stored take memory.
 #[derive(Drop)]

@@ -23,6 +23,3 @@ pub use mesh_fields::commands::SpeltCommand;
 pub use quick::quick_entry;
 pub use reading::EntryReader;
 pub use words::{RecordedEntry, RecordedReply};
-
-#[cfg(test)]
-mod tests;

@@ -12,6 +12,3 @@ mod pending;
 pub use begun::BegunLine;
 pub use inputs::LineInput;
 pub use pending::Pending;
-
-#[cfg(test)]
-mod tests;

@@ -23,6 +23,3 @@ pub use possible::{Loads, Possible, Unexplained};
 pub use stops::{Found, Stop};
 pub use timeline::Timeline;
 pub use verdicts::CallVerdict;
-
-#[cfg(test)]
-mod tests;

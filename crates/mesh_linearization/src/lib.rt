@@ -25,6 +25,3 @@ mod texts;
 
 pub use orders::linearize;
 pub use texts::history_in_order;
-
-#[cfg(test)]
-mod tests;

@@ -15,6 +15,3 @@ pub use judging::{Verdict, judged};
 pub use never::first_match;
 pub use pattern::Pattern;
 pub use run::{VerdictOptions, verdict};
-
-#[cfg(test)]
-mod tests;
