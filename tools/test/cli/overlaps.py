@@ -42,7 +42,7 @@ def tiny_histories(suite):
         if (run.status, word, run.errors) != ((0, b"linearizable", b"") if kind == IN_ORDER else (1, b"line", b"")):
             faults.append(f"{number}, {calls}: {kind}")
     few = [f"{counts[kind]} {kind}" for kind in (IN_ORDER, WITHOUT_ORDER, OUTSIDE_LIVES) if counts[kind] <= LEAST]
-    suite.report(f"overlaps: {TINY} random histories, as all orders of each have it", faults + few)
+    suite.report(f"overlaps: {TINY} random histories, as all orders of each have it", faults[:3] + few)
 
 
 def tiny_calls(source):
