@@ -85,7 +85,7 @@ def check_from_scratch(crate, name, words):
     begun = processor_seconds()
     check = subprocess.run(words, cwd=crate, capture_output=True, text=True)
     took = processor_seconds() - begun
-    functions = re.findall(r"logic=proved functions=(\d+)", check.stdout)
+    functions = re.findall(r"logic=proved (?:tests=\d+ )?functions=(\d+)", check.stdout)
     if not functions:
         return False
     print(f"{name}: {took:.0f} s, {functions[-1]} functions, {proof_lines(crate)} lines of proof", flush=True)
