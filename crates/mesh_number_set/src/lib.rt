@@ -8,6 +8,3 @@ mod ranges;
 mod set;
 
 pub use set::NumberSet;
-
-#[cfg(test)]
-mod tests;

@@ -136,15 +136,6 @@ impl ObjectBytes {
         })
     }
 
-    /// Returns the number of kept chunks.
-    #[cfg(test)]
-    pub(crate) fn chunk_count(&self) -> usize
-        ensures { result ≡ length self.now.chunks }
-    {
-        let _len = self.len;
-        self.chunks.len()
-    }
-
     /// Returns a copy. The only error is an allocation failure.
     pub(crate) fn copied(&self, alloc: Global) -> Result<ObjectBytes, AllocError>
         ensures { IfOk result (λ copy. copy ≡ self.now) }

@@ -14,6 +14,3 @@ pub mod laws;
 pub use access::Access;
 pub use accesses::ObjectAccesses;
 pub use bytes::ObjectBytes;
-
-#[cfg(test)]
-mod tests;

@@ -10,6 +10,3 @@ mod timed;
 
 pub use mesh_configurations::Refutation;
 pub use timed::TimedJudge;
-
-#[cfg(test)]
-mod tests;
