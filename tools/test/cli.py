@@ -19,7 +19,7 @@ from cli import check, draw, explore, histories, live, overlaps, record, replay,
 from cli.suite import Suite
 
 TOP = pathlib.Path(__file__).resolve().parents[2]
-# In this order: the last two read histories that the modules before them record.
+# In this order: `savings` reads histories that `record` makes. `None`: all cases are in the table.
 TESTED = {
     "replay": replay,
     "threads": threads,
@@ -31,6 +31,7 @@ TESTED = {
     "histories": histories,
     "record": record,
     "savings": savings,
+    "command_line": None,
 }
 
 
@@ -46,7 +47,8 @@ def main():
             table = TOP / f"tools/test/cases/{name}.txt"
             if table.exists():
                 tables.run(suite, table)
-            module.cases(suite)
+            if module:
+                module.cases(suite)
     print(f"{suite.passed} passed, {suite.failed} failed")
     return 1 if suite.failed else 0
 

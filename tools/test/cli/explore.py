@@ -44,7 +44,6 @@ def cases(suite):
     answers_shown(suite)
     verdicts(suite)
     progress(suite)
-    meshes(suite)
     closed_input(suite)
     tables = execute([sys.executable, "tools/test/interleavings.py", suite.program])
     suite.compare("explore: the tables of docs/INTERLEAVINGS.md", tables, 0, line("192 cells, 0 differ"))
@@ -147,31 +146,6 @@ def progress(suite):
     seen = run._replace(output=lines(run.rows[:1]), errors=counts)
     name = "explore: progress of some seconds"
     suite.compare(name, seen, 0, line("interleavings 59281238016000 states 131072"), wanted)
-
-
-def meshes(suite):
-    """Words that are no mesh, and too many of them."""
-    forms = "", "1", ":", "1:", ":0", "1:0:2", "++1:0", "+:0", "1-0", "a:0", "1: 0"
-    numbers = "1:65536", "65536:0", "99999999999999999999:0"
-    for word in (*forms, *numbers):
-        name = f"explore: the mesh '{word}'"
-        suite.check(name, 2, NOTHING, no_mesh(suite, word), "explore", STORE, "--mesh", word)
-    name = "explore: the second of three meshes"
-    suite.check(name, 2, NOTHING, no_mesh(suite, "1-0"), *ON_STORE, "--mesh=1-0", "--mesh", "1")
-    too_many = usage(suite, "the argument '--mesh <SRC:DST>' cannot be used more than 10 times")
-    suite.check("explore: eleven meshes", 2, NOTHING, too_many, "explore", STORE, *["--mesh", "1:0"] * 11)
-
-
-def no_mesh(suite, word):
-    """The fault of a word that is no mesh."""
-    expected = "two group numbers from 0 to 65535 with a colon between them"
-    return usage(suite, f"invalid value '{word}' for '--mesh <SRC:DST>': {expected}")
-
-
-def usage(suite, fault):
-    """A fault of the words of `explore`, with its usage."""
-    usage_line = f"Usage: {suite.program.name} explore [OPTIONS] --mesh <SRC:DST> <FILE>"
-    return lines([f"error: {fault}", "", usage_line, "", "For more information, try '--help'."])
 
 
 def closed_input(suite):

@@ -15,7 +15,7 @@ A line that is indented goes on with the fields. Indented lines that begin with 
 which WORDS call FILE: what follows `| `, with the escapes of Python. A `\` at the end of a line removes its line end.
 Indented lines that begin with `>` are those that OUTPUT calls THESE, in the same form.
 
-`NAME = TEXT` defines $NAME for the lines below. `#` begins a comment.
+`NAME = TEXT` defines $NAME for the lines below; $PROGRAM is the program's file name. `#` begins a comment.
 """
 
 import dataclasses
@@ -31,7 +31,7 @@ FULL = {">/dev/full": "stdout", "2>/dev/full": "stderr"}
 
 def run(suite, path):
     """Runs the cases of a table."""
-    for case in entries(path):
+    for case in entries(path, {"PROGRAM": suite.program.name}):
         name, status, output, errors, words = re.split(" {2,}", f"{case.fields}  ", maxsplit=4)
         own_file = suite.write("own_file", content(case.own))
         words, streams = command(words, own_file)
@@ -48,9 +48,8 @@ class Case:
     these: list = dataclasses.field(default_factory=list)
 
 
-def entries(path):
-    """The cases of a table."""
-    definitions = {}
+def entries(path, definitions):
+    """The cases of a table, with these definitions and its own."""
     found = []
     for row in path.read_text().splitlines():
         if not row.strip() or row.startswith("#"):
