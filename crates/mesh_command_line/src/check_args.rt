@@ -2,7 +2,7 @@
 ghost use Rattle.mesh_command_line.specs.CheckArgs.{IsInRange};
 
 /// The arguments of `check` other than its file. The type guarantees that `configurations` is in its range.
-#[derive(Clone, Copy, PartialEq, Eq)]
+#[derive(Clone, Copy)]
 pub struct CheckArgs {
     /// The greatest number of configurations of an object, 1 or more. It applies to a history of overlapping calls.
     pub configurations: u32,

@@ -62,7 +62,7 @@ const SEED_NOT_GIVEN: u64 = 1;
 const VERSION: &str = "0.1.0";
 
 /// The request of a command line: the subcommand with its arguments.
-#[derive(Clone, Copy, PartialEq, Eq)]
+#[derive(Clone, Copy)]
 pub enum Args<'a> {
     /// `replay FILE`: replay the job file at this path, and print the answers.
     Replay(&'a str),

@@ -3,7 +3,7 @@ ghost use Rattle.mesh_command_line.specs.DrawArgs.{AreInRange};
 
 /// The arguments of `draw` other than its file. The type guarantees that `from`, `to` and `columns` are in their
 /// ranges.
-#[derive(Clone, Copy, PartialEq, Eq)]
+#[derive(Clone, Copy)]
 pub struct DrawArgs {
     /// The first line of the plan that is drawn, 1 to 1,048,576.
     pub from: u32,

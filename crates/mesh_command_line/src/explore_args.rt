@@ -5,7 +5,7 @@ use crate::Meshes;
 
 /// The arguments of `explore` other than its file. The type guarantees that `meshes`, `cancel` and `states` are in
 /// their ranges.
-#[derive(Clone, Copy, PartialEq, Eq)]
+#[derive(Clone, Copy)]
 pub struct ExploreArgs<'a> {
     /// The meshes, one to ten.
     pub meshes: Meshes,
@@ -21,7 +21,7 @@ pub struct ExploreArgs<'a> {
 }
 
 /// The selection of what an exploration prints.
-#[derive(Clone, Copy, PartialEq, Eq)]
+#[derive(Clone, Copy)]
 pub enum Told<'a> {
     /// All answers and outcomes.
     All,
@@ -35,7 +35,7 @@ pub enum Told<'a> {
 }
 
 /// The answer that `--show` names.
-#[derive(Clone, Copy, PartialEq, Eq)]
+#[derive(Clone, Copy)]
 pub struct ShownArgs<'a> {
     /// The line of the command in the job file, counted from 1.
     pub line: u32,

@@ -2,7 +2,7 @@
 ghost use Rattle.mesh_command_line.specs.LiveArgs.{AreFairSizes};
 
 /// The sizes of a live session, as in the header of a job file. The type guarantees that all three are in their ranges.
-#[derive(Clone, Copy, PartialEq, Eq)]
+#[derive(Clone, Copy)]
 pub struct LiveArgs {
     /// The number of physical pages of the arena, 1 to 4,096.
     pub pages: u32,

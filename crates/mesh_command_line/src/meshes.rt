@@ -7,7 +7,7 @@ use mesh_explore::MeshPair;
 pub(crate) const MOST_MESHES: usize = 10;
 
 /// Up to ten meshes, in the order in which they are given.
-#[derive(Clone, Copy, PartialEq, Eq)]
+#[derive(Clone, Copy)]
 pub struct Meshes {
     // The pairs at index `count` and above are unused: group 0 into group 0.
     pairs: [MeshPair; MOST_MESHES],

@@ -3,7 +3,7 @@ ghost use Rattle.mesh_command_line.specs.SavingsArgs.{AreInRange};
 
 /// The arguments of `savings` other than its file. The type guarantees that `every`, `probe`, `from` and `to` are in
 /// their ranges.
-#[derive(Clone, Copy, PartialEq, Eq)]
+#[derive(Clone, Copy)]
 pub struct SavingsArgs {
     /// The number of objects of up to 2,048 bytes that are freed between two rounds of meshing, 1 or more.
     pub every: u32,

@@ -3,7 +3,7 @@ ghost use Rattle.mesh_command_line.specs.ThreadsArgs.{AreInRange};
 
 /// The arguments of `threads` other than its file. The type guarantees that `probe`, `rounds`, `workers` and `meshers`
 /// are in their ranges.
-#[derive(Clone, Copy, PartialEq, Eq)]
+#[derive(Clone, Copy)]
 pub struct ThreadsArgs {
     /// The greatest number of rounds in a split search, 0 to 64.
     pub probe: u32,
