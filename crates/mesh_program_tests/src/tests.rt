@@ -11,8 +11,3 @@ mod runs;
 fn check<N: Display + Drop>(rt: &(impl Abort + AllocGlobal), goes: bool, run: &Ran, case: N) {
     assert!(rt; goes, "{case}: {run:?}");
 }
-
-/// Asserts that the text of a case is `wanted`.
-fn check_text<N: Display>(rt: &impl Abort, text: &[u8], wanted: &[u8], case: &N) {
-    assert_eq!(rt; text, wanted, "{case}");
-}

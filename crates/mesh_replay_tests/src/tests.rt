@@ -1,4 +1,4 @@
-//! The tests. The expected tables of `savings` were printed by another engine. Every other expected text was worked out
+//! The tests. The expected table of `savings` was printed by another engine. Every other expected text was worked out
 //! by hand from the rules, and none was copied from a run.
 
 use mesh_program_tests::memory::Ran;

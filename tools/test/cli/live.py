@@ -1,4 +1,4 @@
-"""Golden files asked line by line, and another allocator that is sent the same commands."""
+"""Golden files asked line by line, long lines, and another allocator that is sent the same commands."""
 
 import sys
 
@@ -16,12 +16,27 @@ def cases(suite):
         name = f"live: {job.with_suffix('')}"
         suite.check(name, 0, lines(answers), NOTHING, "live", *sizes_of(text), stdin=session)
 
+    long_lines(suite)
     fuzz = [sys.executable, "examples/fuzz_live.py", suite.program, "--lines", 5000, "--seed", 1]
     suite.compare("live: 5,000 lines beside another allocator", execute(fuzz), 0, SOME_TEXT)
     found = execute([*fuzz, "--bug"])
     suite.compare("live: another allocator with a bug", found, 1, SOME_TEXT, SOME_TEXT)
     job = suite.write("found.job", found.output)
     suite.check("live: what was found, as a job", 0, SOME_TEXT, NOTHING, "replay", job)
+
+
+def long_lines(suite):
+    """Lines as long as they may be, and longer."""
+    for length, end, fault in (
+        (1024, "", "CUT"),
+        (1024, "\n", "WORD"),
+        (1025, "", "LONG_LINE"),
+        (1025, "\n", "LONG_LINE"),
+        (40000, "\n", "LONG_LINE"),
+    ):
+        session = suite.write("session", f"{'a' * length}{end}".encode())
+        name = f"live: a line of {length:,} bytes{'' if end else ' that is cut off'}"
+        suite.check(name, 0, lines([f"fault {fault}"]), NOTHING, "live", stdin=session)
 
 
 def session_of(text, answers):

@@ -15,6 +15,12 @@ ANYTHING = object()
 NULL = pathlib.Path("/dev/null")
 
 
+class Beginning(typing.NamedTuple):
+    """What a text should be: one that begins with these bytes."""
+
+    text: bytes
+
+
 class Run(typing.NamedTuple):
     """How a command ended, and what it printed."""
 
@@ -113,6 +119,9 @@ def differences(stream, text, wanted):
         return []
     if wanted is SOME_TEXT:
         return [f"{stream} is empty"]
+    if isinstance(wanted, Beginning):
+        begun = text[: len(wanted.text)]
+        return [] if begun == wanted.text else [f"{stream} begins with {shown(begun)}, not {shown(wanted.text)}"]
     if isinstance(wanted, pathlib.Path):
         if not wanted.is_file():
             return [f"there is no {wanted} for {stream}"]

@@ -5,8 +5,8 @@ A case is a line of five fields, with two spaces or more between them:
     NAME  STATUS  OUTPUT  ERRORS  WORDS
 
 OUTPUT and ERRORS are what is printed on standard output and standard error: `-` for nothing, `any` for some text,
-`"TEXT"` for this line (`\n` in it begins another one), `THESE` for lines below the case, or else the file whose
-content it is.
+`"TEXT"` for this line (`\n` in it begins another one), `"TEXT"..` for a text that begins so, `THESE` for lines below
+the case, or else the file whose content it is.
 
 WORDS are the words after the program's name, as in a shell. `cat PATH | WORDS` makes standard input a pipe, `<PATH` a
 file; it is /dev/null otherwise. `>/dev/full` and `2>/dev/full` make an output a full device.
@@ -24,7 +24,7 @@ import re
 import shlex
 import string
 
-from cli.suite import NOTHING, SOME_TEXT
+from cli.suite import NOTHING, SOME_TEXT, Beginning
 
 FULL = {">/dev/full": "stdout", "2>/dev/full": "stderr"}
 
@@ -83,6 +83,8 @@ def text(field):
         return NOTHING
     if field == "any":
         return SOME_TEXT
+    if field.startswith('"') and field.endswith(".."):
+        return Beginning(unescaped(field[1:-3]))
     if field.startswith('"'):
         return unescaped(field[1:-1]) + b"\n"
     return pathlib.Path(field)

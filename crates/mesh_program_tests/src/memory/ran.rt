@@ -41,6 +41,16 @@ impl Ran {
             && self.errors.as_slice() == errors.as_bytes()
             && self.status == status
     }
+
+    /// Whether the run ended with this status and wrote exactly this text, to standard error if the status is 2, and
+    /// otherwise to standard output. The other output must be empty.
+    pub fn told(&self, text: &str, status: u8) -> bool {
+        if status == 2 {
+            self.wrote(b"", text, status)
+        } else {
+            self.wrote(text.as_bytes(), "", status)
+        }
+    }
 }
 
 /// Returns devices that read from this source and write to memory.
