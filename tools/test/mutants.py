@@ -5,8 +5,8 @@
 
 A mutant is a file crates/NAME/mutants/*.edit. With --all those under crates/NAME/mutants/more and crates/NAME/must-fail
 are tried too; `rt ci` tries the latter by itself. CRATE is a crate that has mutants; by default all are tried. The
-crates must be proved as they are, and built: run the tool after `rt ci`, or after `rt check` or `rt lib` of each crate,
-which leave what it needs in crates/*/out. The tool writes only to temporary folders and to its own store.
+crates must be proved as they are, and built: run the tool after `rt ci` in a fresh clone, or after `rt lib`, for a
+program `rt run`, in the crate's folder. The tool writes only to temporary folders and to its own store.
 
 Most mutants change the body of a function. Another function's proof rests on that function's contract and not on its
 body, so mutants of different functions can share a copy of the crate and a check of it, which reads those functions and
@@ -31,6 +31,7 @@ once as the variable RT_JOBS says, by default one; each takes 1 to 2 GB. It need
 import argparse
 import collections
 import concurrent.futures
+import contextlib
 import hashlib
 import os
 import pathlib
@@ -316,11 +317,13 @@ class Store:
         return f"kept: {file.read_text(encoding='utf-8')}" if self.is_read and file.is_file() else None
 
     def keep(self, mutant):
-        """Keeps why a mutant was refused."""
-        self.folder.mkdir(parents=True, exist_ok=True)
+        """Keeps why a mutant was refused, if the folder can be written."""
         file = self.folder / mutant.key
-        file.with_suffix(f".{os.getpid()}").write_text(mutant.reason.removeprefix("kept: "), encoding="utf-8")
-        file.with_suffix(f".{os.getpid()}").rename(file)
+        written = file.with_suffix(f".{os.getpid()}")
+        with contextlib.suppress(OSError):
+            self.folder.mkdir(parents=True, exist_ok=True)
+            written.write_text(mutant.reason.removeprefix("kept: "), encoding="utf-8")
+            written.rename(file)
 
 
 def key_of(crate, uses):
@@ -352,10 +355,10 @@ def built(crate):
     out = CRATES / crate / "out"
     made = out / crate if (CRATES / crate / "src/main.rt").is_file() else out / f"rlib/{crate}.rlib"
     if not made.exists():
-        fail(f"{crate} isn't built: run rt ci, or rt lib in crates/{crate}")
+        fail(f"{crate} isn't built: run rt lib or rt run in crates/{crate}")
     files = (file for part in PARTS for file in (CRATES / crate / part).rglob("*.*"))
     if any(file.stat().st_mtime > made.stat().st_mtime for file in files):
-        fail(f"{crate} was changed after it was built: run rt ci, or rt lib in crates/{crate}")
+        fail(f"{crate} was changed after it was built: run rt lib or rt run in crates/{crate}")
     return made
 
 

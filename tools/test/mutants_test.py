@@ -3,9 +3,9 @@
 
     tools/test/mutants_test.py
 
-Among the mutants are harmless ones beside others of the same check, a caller of a mutated function, two of one function,
-one of a definition, and bad ones. It takes a minute or two, and prints a line for each verdict that differs and a last
-line that counts them. The status is 1 if a verdict differs. It needs `rt`.
+Among the mutants are harmless ones beside others of the same check, one of a function that calls a mutated one, two of
+one function, one of a definition, and bad ones. It takes a minute or two, and prints a line for each verdict that
+differs and a last line that counts them. The status is 1 if a verdict differs. It needs `rt` and git.
 """
 import os
 import pathlib
