@@ -8,4 +8,4 @@ mod tables;
 
 pub use ran::{InMemory, Ran, in_memory};
 pub use slow::{Bytes, SlowSource};
-pub use tables::{LENGTHS, ROW_END, faulty_files, fields, letters};
+pub use tables::{ROW_END, faulty_files, fields};

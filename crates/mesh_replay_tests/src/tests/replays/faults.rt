@@ -2,7 +2,8 @@
 use crate::tests::check;
 use crate::tests::replays::{history_of, replayed};
 use mesh_program_tests::memory::files::FIRST_FILE;
-use mesh_program_tests::memory::{LENGTHS, ROW_END, faulty_files, fields, letters};
+use mesh_program_tests::memory::{ROW_END, faulty_files, fields};
+use std::alloc::{AllocError, Global};
 use std::process::Abort;
 use std::test::Fail;
 
@@ -16,6 +17,24 @@ fn tells_each_fault(rt: HostRuntime) {
         check(&rt, answers.wrote(b"", fault, 2), &answers, name);
         check(&rt, journal.wrote(b"", fault, 2), &journal, name);
     }
+}
+
+/// Faulty lines that consist of bytes `a`: the number of bytes, whether a line end follows, and the kind of the fault.
+static LENGTHS: [(usize, bool, &str); 5] = [
+    (1024, false, "CUT"),
+    (1024, true, "WORD"),
+    (1025, false, "LONG_LINE"),
+    (1025, true, "LONG_LINE"),
+    (40_000, true, "LONG_LINE"),
+];
+
+/// Returns a text of `count` bytes `a`, and of a line end if `has_end` is true.
+fn letters(alloc: Global, count: usize, has_end: bool) -> Result<Vec<u8>, AllocError> {
+    let mut text = vec![in alloc; b'a'; count]?;
+    if has_end {
+        text.push(b'\n')?;
+    }
+    Ok(text)
 }
 
 /// Asserts the fault of a file that consists of `count` bytes `a`, and of a line end if `has_end` is set.
