@@ -3,16 +3,17 @@
 #
 #     tools/test/generated.sh
 #
-# It runs each script of tools/gen and tools/proof/cost_table.py, and compares what they write with what is committed.
-# It also compares the copies that must be equal.
+# It runs each script of tools/gen, tools/proof/cost_table.py and tools/proof/unstated.py, and compares what they write
+# with what is committed. It also compares the copies that must be equal.
 #
 # The output is the difference. The status is 1 if there is one. It needs git, g++, python3, and `rt` for `rt fmt`.
 
 cd "$(dirname "$0")/../.." || exit 2
-for script in tools/gen/*.py tools/gen/*.sh tools/proof/cost_table.py; do
+for script in tools/gen/*.py tools/gen/*.sh tools/proof/cost_table.py tools/proof/unstated.py; do
     "$script" >/dev/null || exit 1
 done
 cmp jobs/examples/hello.job crates/meshrun/data/hello.job || exit 1
 # A clone may belong to another user than the one who runs this.
 git -c safe.directory='*' diff --exit-code -- crates/mesh_rows crates/mesh_program_tests/src/memory \
-    crates/mesh_explore_tests/src/tests docs/ARCHITECTURE.md docs/INTERLEAVINGS.md docs/PROOF_COST.md jobs/explore histories
+    crates/mesh_explore_tests/src/tests docs/ARCHITECTURE.md docs/INTERLEAVINGS.md docs/PROOF.md docs/PROOF_COST.md \
+    jobs/explore histories
