@@ -205,42 +205,76 @@ const MADE: (Call, Answer) = (Call::New(0, 2048), Answer::Object(0, 0x1000));
 /// A load of the first two bytes of the object in cell 0, with its answer.
 const READ: (Call, Answer) = (Call::Get(0, 0, 2), Answer::Bytes(&[0, 0]));
 
-/// Cases by name: the calls before a book is finished, the places of the seats that `finish` gets, and the fault that
-/// it returns.
-static MISFITS: [(&str, &[Turn], &[usize], FinishError); 7] = [
+/// The book beside the one that is finished.
+#[derive(Clone, Copy)]
+enum Beside {
+    // It has two seats.
+    Two,
+    // It has three seats.
+    Three,
+}
+
+impl Beside {
+    /// The number of calls that each seat has room for, by seat.
+    fn counts(self) -> &'static [usize]
+        ensures some { 1 ≤ length result.now }
+        ensures few { length result.now ≤ 64 }
+    {
+        match self {
+            Beside::Two => &[4, 4],
+            Beside::Three => &[4, 4, 4],
+        }
+    }
+}
+
+/// Cases by name: the other book, the calls before a book is finished, the places of the seats that `finish` gets, and
+/// the fault that it returns.
+static MISFITS: [(&str, Beside, &[Turn], &[usize], FinishError); 7] = [
     (
         "an entry of no call of seat 0",
+        Beside::Two,
         &[(Asked::Own, 2, MADE)],
         &[0, 1],
         FinishError::SeatDiffers { seat: 0, call: 0 },
     ),
     (
         "seats in the other order",
+        Beside::Two,
         &[],
         &[1, 0],
         FinishError::SeatMissing(0),
     ),
-    ("one seat of two", &[], &[0], FinishError::SeatMissing(1)),
+    (
+        "one seat of two",
+        Beside::Two,
+        &[],
+        &[0],
+        FinishError::SeatMissing(1),
+    ),
     (
         "one seat more",
+        Beside::Two,
         &[],
         &[0, 1, 2],
         FinishError::SeatMissing(2),
     ),
     (
         "an entry of a worker without a seat",
+        Beside::Three,
         &[(Asked::Own, 4, MADE)],
         &[0, 1],
         FinishError::SeatMissing(2),
     ),
     (
         "a call that stands in another journal",
+        Beside::Two,
         &[(Asked::Other, 0, MADE), (Asked::Other, 0, READ)],
         &[0, 1],
         FinishError::SeatDiffers { seat: 0, call: 0 },
     ),
     (
         "a read that saw another journal",
+        Beside::Two,
         &[(Asked::Other, 3, MADE), (Asked::Other, 0, READ)],
         &[0, 1],
         FinishError::ReadDiffers { seat: 0, call: 0 },
@@ -298,12 +332,13 @@ fn taken(
 /// fault that `finish` returns.
 fn told(
     rt: &(impl Abort + AllocGlobal + Wait),
+    beside: Beside,
     turns: &[Turn],
     handed: &[usize],
     name: &str,
 ) -> FinishError {
     let (own, own_seats) = opened(rt, 16, 64, &[4, 4]);
-    let (other, other_seats) = opened(rt, 16, 64, &[4, 4, 4]);
+    let (other, other_seats) = opened(rt, 16, 64, beside.counts());
     let mut places = placed(rt, own_seats, other_seats);
     for turn in turns {
         take_turn(rt, &own, &other, places.as_mut_slice(), turn, name);
@@ -320,8 +355,8 @@ fn fault_of(rt: &(impl Abort + AllocGlobal), shared: Shared, seats: Vec<Seat>) -
 
 #[test]
 fn seats_that_do_not_fit_are_told(rt: HostRuntime) {
-    for (name, turns, handed, fault) in MISFITS.iter() {
-        let error = told(&rt, turns, handed, name);
+    for (name, beside, turns, handed, fault) in MISFITS.iter() {
+        let error = told(&rt, *beside, turns, handed, name);
         assert!(&rt; error == *fault, "of {name}: {error}");
     }
 }

@@ -281,21 +281,24 @@ fn all_steps_left(heap: &mut Heap) -> u32 {
     left
 }
 
-/// Whether the byte at the first address is `front`, and the byte at each other address is zero.
-fn begins_with(heap: &Heap, addresses: Range<u32>, front: u8) -> bool {
-    let mut wanted = front;
+/// Returns the byte at the first address, or `None` if the byte at another address isn't zero.
+fn first_byte(heap: &Heap, addresses: Range<u32>) -> Option<u8> {
+    let mut first = None;
     for address in addresses {
-        if heap.peek(address) != Ok(wanted) {
-            return false;
+        match (heap.peek(address), first) {
+            (Ok(byte), None) => first = Some(byte),
+            (Ok(0), Some(_)) => {}
+            _ => return None,
         }
-        wanted = 0;
     }
-    true
+    first
 }
 
-/// Whether the objects of the cells 1 and 2 contain the bytes that the script `STORER` stores.
-fn keep_bytes(heap: &Heap) -> bool {
-    begins_with(heap, 0x1800..0x2000, 0xab) && begins_with(heap, 0x2000..0x2800, 0xcd)
+/// Returns the first byte of each of the objects of the cells 1 and 2, or `None` if another byte of theirs isn't zero.
+fn first_bytes(heap: &Heap) -> Option<(u8, u8)> {
+    let lower = first_byte(heap, 0x1800..0x2000)?;
+    let upper = first_byte(heap, 0x2000..0x2800)?;
+    Some((lower, upper))
 }
 
 /// The result of a run.
@@ -307,9 +310,10 @@ struct Seen {
     no_pages: usize,
     // The counts of the heap.
     report: Report,
-    // Whether the objects contain the bytes that `STORER` stores: at the end of the run, and after all meshes are
-    // finished.
-    keeps_bytes: (bool, bool),
+    // The first bytes of the objects at the end of the run.
+    bytes: Option<(u8, u8)>,
+    // The first bytes of the objects after all meshes are finished.
+    last_bytes: Option<(u8, u8)>,
     // The number of steps that the meshes of all classes still took.
     steps_left: u32,
 }
@@ -322,13 +326,14 @@ fn look_at(mut ended: Ended) -> Seen {
 /// Examines a history and a heap, and finishes the heap's meshes.
 fn seen_of(history: &[Entry], heap: &mut Heap) -> Seen {
     let report = heap.report();
-    let kept = keep_bytes(heap);
+    let bytes = first_bytes(heap);
     let steps_left = all_steps_left(heap);
     Seen {
         entries: (count_of(history, 0), count_of(history, 1)),
         no_pages: no_pages_count(history),
         report,
-        keeps_bytes: (kept, keep_bytes(heap)),
+        bytes,
+        last_bytes: first_bytes(heap),
         steps_left,
     }
 }
@@ -563,8 +568,27 @@ const STORER: &[Part] = &[
     Part::Read(2, 4),
 ];
 
+/// A run in which the search waits for two groups, and the reads wait for the mesh.
+static READ_AMID: Course = Course {
+    first: READER,
+    events: &[Event::Called(0, 5), Event::Begun(0)],
+    holds: &[
+        Hold(Event::Searching, &[Event::Called(0, 5)], 0),
+        Hold(Event::Called(0, 5), &[Event::Begun(0)], 0),
+    ],
+    ..ALONE
+};
+
+/// The run `READ_AMID` with a mesher that makes no call. No mesh begins, so the reads wait for none.
+static READ_WITHOUT: Course = Course {
+    first: READER,
+    events: &[Event::Called(0, 5)],
+    holds: &[Hold(Event::Searching, &[Event::Called(0, 5)], 0)],
+    ..ALONE
+};
+
 /// A run in which the search waits for the stores, and the reads wait for the mesh.
-static MESH_AMID: Course = Course {
+static STORE_BEFORE: Course = Course {
     first: STORER,
     events: &[Event::Called(0, 7), Event::Begun(0)],
     holds: &[
@@ -574,33 +598,79 @@ static MESH_AMID: Course = Course {
     ..ALONE
 };
 
-/// The run `MESH_AMID` with a mesher that makes no call. No mesh begins, so the reads wait for none.
-static NO_MESH: Course = Course {
+/// The run `STORE_BEFORE` with a mesher that makes no call. No mesh begins, so the reads wait for none.
+static STORE_WITHOUT: Course = Course {
     first: STORER,
     events: &[Event::Called(0, 7)],
     holds: &[Hold(Event::Searching, &[Event::Called(0, 7)], 0)],
     ..ALONE
 };
 
-/// Asserts that all commands were answered, that both objects keep their bytes to the end, and that `left` steps of
-/// meshes were left.
-fn check_abandoned(rt: &impl Abort, seen: &Seen, left: u32) {
-    check_entries(rt, seen, (12, 0));
-    check_that(
-        rt,
-        seen.keeps_bytes == (true, true),
-        "both keep their bytes",
-    );
-    check_that(rt, seen.steps_left == left, "steps are left");
+/// The result of a script whose mesher is abandoned.
+#[derive(Clone, Copy)]
+struct Left {
+    // The number of the script's entries in the history.
+    entries: usize,
+    // The first bytes of the two objects.
+    bytes: (u8, u8),
+    // The number of steps of the mesh that were left.
+    steps: u32,
+}
+
+/// Runs a course whose mesher is abandoned after this number of calls. Asserts that the result is `left`, and that
+/// both objects keep their bytes when the mesh is finished.
+fn check_abandoned<R: Abort + AllocGlobal + Clock + Threads + Wait + Sync>(
+    rt: &R,
+    course: &Course,
+    calls: u32,
+    left: Left,
+) {
+    let seen = played(rt, course, Some(calls));
+    check_entries(rt, &seen, (left.entries, 0));
+    check_that(rt, seen.bytes == Some(left.bytes), "both have their bytes");
+    check_that(rt, seen.last_bytes == seen.bytes, "both keep their bytes");
+    check_that(rt, seen.steps_left == left.steps, "steps are left");
+}
+
+/// Returns the number of steps that are left of a mesh of six steps after this number of a mesher's calls.
+fn steps_after(calls: u32) -> u32 {
+    match calls {
+        0 => 0,
+        _ => 7u32.saturating_sub(calls),
+    }
 }
 
 #[test]
 fn a_mesher_is_abandoned_after_each_call(rt: HostRuntime) {
     for calls in 0..8 {
-        let course = if calls == 0 { &NO_MESH } else { &MESH_AMID };
-        let seen = played(&rt, course, Some(calls));
-        let left = if calls == 0 { 0 } else { 7 - calls };
-        check_abandoned(&rt, &seen, left);
+        let course = if calls == 0 {
+            &READ_WITHOUT
+        } else {
+            &READ_AMID
+        };
+        let left = Left {
+            entries: 10,
+            bytes: (0, 0),
+            steps: steps_after(calls),
+        };
+        check_abandoned(&rt, course, calls, left);
+    }
+}
+
+#[test]
+fn a_mesher_is_abandoned_after_stores(rt: HostRuntime) {
+    for calls in 0..8 {
+        let course = if calls == 0 {
+            &STORE_WITHOUT
+        } else {
+            &STORE_BEFORE
+        };
+        let left = Left {
+            entries: 12,
+            bytes: (0xab, 0xcd),
+            steps: steps_after(calls),
+        };
+        check_abandoned(&rt, course, calls, left);
     }
 }
 
