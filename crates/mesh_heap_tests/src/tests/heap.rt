@@ -5,5 +5,5 @@ mod calls;
 mod heaps;
 mod memory;
 mod meshes;
-mod searches;
+pub(crate) mod searches;
 mod tried;

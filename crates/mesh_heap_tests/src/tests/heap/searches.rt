@@ -47,6 +47,13 @@ fn object(serial: u8) -> Ref {
     }
 }
 
+/// Returns the heap of the worked searches: eight objects, of which four are freed.
+pub(crate) fn worked_heap(rt: &(impl Abort + AllocGlobal)) -> Heap {
+    let mut heap = Heap::open(rt.alloc(), 16).expect(rt, "memory");
+    fill(rt, &mut heap);
+    heap
+}
+
 /// Makes eight objects in a heap, and then frees four of them.
 fn fill(rt: &impl Abort, heap: &mut Heap) {
     for _ in 0..OBJECTS {
@@ -84,7 +91,6 @@ fn check_three(rt: &(impl Abort + AllocGlobal), view: &ClassView) {
 /// Asserts the results of searches in a filled heap, before and after its last object is freed too.
 fn search_heap(rt: &(impl Abort + AllocGlobal), heap: &mut Heap) {
     let class = class_of(2048).expect(rt, "a class");
-    fill(rt, heap);
     check_heap(rt, heap, class);
     free(rt, heap, LAST);
     check_three(rt, &heap.view(rt.alloc(), class).expect(rt, "memory"));
@@ -92,8 +98,7 @@ fn search_heap(rt: &(impl Abort + AllocGlobal), heap: &mut Heap) {
 
 #[test]
 fn a_heap_is_searched_by_its_own_view(rt: HostRuntime) {
-    let mut heap = Heap::open(rt.alloc(), 16).expect(&rt, "memory");
-    search_heap(&rt, &mut heap);
+    search_heap(&rt, &mut worked_heap(&rt));
 }
 
 /// Asserts the results of searches in a book's view of the class 2048. The view is made twice: by itself, and as the

@@ -1,45 +1,40 @@
-//! A test of the split search on candidates that are given by their group numbers.
-ghost use Rattle.std.specs.Prelude.{◌≡◌, ◌<◌, ◌∷◌, [], IfOk};
-ghost use Rattle.mesh_search.specs.Views.{AreNamed, IsCandidate};
+//! Tests of the shuffle and the split search on a heap's view, by calls of each.
+ghost use Rattle.std.specs.Prelude.{◌≡◌, ◌<◌, ◌∷◌, [], length};
+ghost use Rattle.mesh_search.specs.Views.{AreNamed, candidate_at};
 
-use crate::tests::search::worked::{has_found, pair};
-use mesh_bits::Bits;
-use mesh_class::{Class, class_of};
-use mesh_search::{Candidate, ClassView, split_mesh};
-use std::alloc::{AllocError, Global};
+use crate::tests::heap::searches::worked_heap;
+use crate::tests::search::worked::{WORDS, check_count, has_found, pair};
+use mesh_class::class_of;
+use mesh_search::{ClassView, shuffle, split_mesh};
+use std::process::Abort;
 use std::test::Fail;
 
-/// A group of the class 2048 with an object in one slot.
-fn candidate(number: u32, slot: u32) -> Candidate
-    requires { slot < 2 }
-    ensures number { result.number ≡ number }
-    ensures candidate { IsCandidate 2048 result }
+/// Asserts that a candidate's number is its place.
+fn check_number(rt: &impl Abort, view: &ClassView, place: usize)
+    requires { place < length view.now.candidates }
+    ensures { (candidate_at view.now place).number ≡ place }
 {
-    let mut occupied = Bits::new(2);
-    occupied.set(slot);
-    Candidate::new(number, occupied)
+    check_count(rt, view.number(place) as usize, place);
 }
 
-/// Returns the worked example's view of the class 2048: the groups 2, 0, 3 and 1.
-fn worked_view(alloc: Global, class: Class) -> Result<ClassView, AllocError>
-    requires { class ≡ 2048 }
-    ensures { IfOk result (λ view. AreNamed view (2 ∷ 0 ∷ 3 ∷ 1 ∷ [])) }
+/// Asserts that a view has four candidates, with the numbers 0 to 3.
+fn check_four(rt: &impl Abort, view: &ClassView)
+    ensures { AreNamed view.now (2 ∷ 0 ∷ 3 ∷ 1 ∷ []) }
 {
-    let groups = [
-        candidate(0, 0),
-        candidate(1, 0),
-        candidate(2, 1),
-        candidate(3, 1),
-    ];
-    let candidates = Vec::from_array(alloc, groups)?;
-    Ok(ClassView::new(class, candidates))
+    check_count(rt, view.len(), 4);
+    check_number(rt, view, 0);
+    check_number(rt, view, 1);
+    check_number(rt, view, 2);
+    check_number(rt, view, 3);
 }
 
 #[test]
-fn an_order_of_numbers_is_searched(rt: HostRuntime) -> Result<(), Fail> {
+fn a_shuffled_order_is_searched(rt: HostRuntime) -> Result<(), Fail> {
     let alloc = rt.alloc();
-    let class = class_of(2048).expect(&rt, "a class");
-    let view = worked_view(alloc, class)?;
+    let order = shuffle(alloc, &[0, 1, 2, 3], &WORDS)?;
+    assert!(rt; order.as_slice() == [2, 0, 3, 1].as_slice());
+    let view = worked_heap(&rt).view(alloc, class_of(2048).expect(&rt, "a class"))?;
+    check_four(&rt, &view);
     let found = split_mesh(alloc, &view, &[2, 0, 3, 1], 2)?;
     assert!(rt; has_found(&found, &[pair(1, 2), pair(3, 0)], 4));
     Ok(())

@@ -1,8 +1,9 @@
 //! Tests that compare searches on several threads with searches on one thread.
 ghost use Rattle.std.specs.Prelude.{◌≤◌};
 
+use crate::tests::heap::searches::worked_heap;
 use crate::tests::search::indexes::{SIZES, views_of};
-use crate::tests::search::worked::{WORDS, WORKED, check_count, has_found, pair};
+use crate::tests::search::worked::{WORDS, check_count, has_found, pair};
 use mesh_search::{Actor, ClassView, Found, Gate, NoGate, Point, search, search_one};
 use rand_core::{Rng, SeedableRng};
 use rand_xoshiro::Xoshiro256PlusPlus;
@@ -63,7 +64,7 @@ fn is_found_by_one(
 
 #[test]
 fn workers_find_the_worked_pairs(rt: HostRuntime) {
-    let views = views_of(&rt, 2048, &WORKED);
+    let views = worked_heap(&rt).views(rt.alloc()).expect(&rt, "memory");
     for t in 0..3 {
         check_agreement(&rt, views.as_slice(), t);
     }
@@ -228,7 +229,7 @@ fn once_each(places: &[u32]) -> u64 {
 
 #[test]
 fn each_searcher_arrives_once_at_each_class(rt: HostRuntime) {
-    let views = views_of(&rt, 2048, &WORKED);
+    let views = worked_heap(&rt).views(rt.alloc()).expect(&rt, "memory");
     let all = views.as_slice();
     for t in 0..4 {
         check_arrivals(&rt, all, t, &[0, 1, 2, 3, 4, 5, 6, 7, 8, 9]);
@@ -303,7 +304,7 @@ impl<'a, R: Clock> Gate for Meeting<'a, R> {
 
 #[test]
 fn two_searchers_are_there_at_once(rt: HostRuntime) {
-    let views = views_of(&rt, 2048, &WORKED);
+    let views = worked_heap(&rt).views(rt.alloc()).expect(&rt, "memory");
     let gate = Meeting {
         rt: &rt,
         first: AtomicBool::new(false),

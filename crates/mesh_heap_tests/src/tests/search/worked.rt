@@ -7,7 +7,7 @@ use std::process::Abort;
 
 /// The occupied slots of four groups of the class 2048. Of eight objects the second, fourth, fifth and seventh are
 /// freed.
-pub(crate) static WORKED: [u32; 4] = [0b01, 0b01, 0b10, 0b10];
+static WORKED: [u32; 4] = [0b01, 0b01, 0b10, 0b10];
 
 /// The random words of the worked searches.
 pub(crate) static WORDS: [u64; 3] = [2, 0, 5];
