@@ -4,9 +4,9 @@
     tools/test/mutants.py [--all] [CRATE..]
 
 A mutant is a file crates/NAME/mutants/*.edit. With --all those under crates/NAME/mutants/more and crates/NAME/must-fail
-are tried too; `rt ci` tries the latter by itself. CRATE is a crate that has mutants; by default all are tried. The
-crates must be proved as they are, and built: run the tool after `rt ci` in a fresh clone, or after `rt lib`, for a
-program `rt run`, in the crate's folder. The tool writes only to temporary folders and to its own store.
+are tried too; `rt ci` tries the latter by itself. CRATE is a crate that has mutants; by default all are tried. What
+isn't proved and built yet as it is, is proved and built first. After `rt ci` in a fresh clone all is. Apart from that
+the tool writes only to temporary folders and to its own store.
 
 Most mutants change the body of a function. Another function's proof rests on that function's contract and not on its
 body, so mutants of different functions can share a copy of the crate and a check of it, which reads those functions and
@@ -211,12 +211,16 @@ class Crate:
         self.seconds += used.ru_utime + used.ru_stime
         return running.returncode, said.rstrip("\n")
 
-    def try_all(self, store):
-        """Gives each mutant its verdict, and returns the crate. A check takes from a folder of this run what an earlier
-        one proved."""
+    def recall(self, store):
+        """Gives a mutant whose refusal is kept its verdict. Returns whether another one has none."""
         for mutant in self.mutants:
             if not mutant.verdict and (reason := store.refusal(mutant)):
                 mutant.settle(REFUSED, reason)
+        return not all(mutant.verdict for mutant in self.mutants)
+
+    def try_all(self, store):
+        """Gives each mutant its verdict, and returns the crate. A check takes from a folder of this run what an earlier
+        one proved."""
         groups = []
         for mutant in (it for it in self.mutants if it.bodies and not it.verdict):
             free = (it for it in groups if not any(mutant.bodies.keys() & other.bodies.keys() for other in it))
@@ -350,16 +354,26 @@ def below(crate, uses):
     return dict.fromkeys(it for name in own for it in (*below(name, uses), name))
 
 
-def built(crate):
-    """The library or the program that was built of a crate, when all that it is made of was as it is now."""
-    out = CRATES / crate / "out"
-    made = out / crate if (CRATES / crate / "src/main.rt").is_file() else out / f"rlib/{crate}.rlib"
-    if not made.exists():
-        fail(f"{crate} isn't built: run rt lib or rt run in crates/{crate}")
+def build(crate, uses):
+    """Proves and builds a crate and those below it, if they aren't yet or were changed since."""
+    if all(map(is_built, [*below(crate, uses), crate])):
+        return
+    verb = "check" if is_program(crate) else "lib"
+    print(f"rt {verb} in crates/{crate}", flush=True)
+    run = subprocess.run(["rt", verb], cwd=CRATES / crate, stdout=subprocess.PIPE, stderr=subprocess.STDOUT, text=True)
+    if run.returncode:
+        fail(f"{crate} isn't proved: {run.stdout[-300:]}")
+
+
+def is_program(crate):
+    return (CRATES / crate / "src/main.rt").is_file()
+
+
+def is_built(crate):
+    """Whether a crate was built when all that it is made of was as it is now."""
+    made = CRATES / crate / "out" / (crate if is_program(crate) else f"rlib/{crate}.rlib")
     files = (file for part in PARTS for file in (CRATES / crate / part).rglob("*.*"))
-    if any(file.stat().st_mtime > made.stat().st_mtime for file in files):
-        fail(f"{crate} was changed after it was built: run rt lib or rt run in crates/{crate}")
-    return made
+    return made.exists() and all(file.stat().st_mtime <= made.stat().st_mtime for file in files)
 
 
 def fail(why):
@@ -370,13 +384,13 @@ def fail(why):
 
 def command(crate, uses):
     """The words by which `rt ci` has a crate checked, over the libraries that it left in crates/*/out."""
-    root = "src/main.rt" if (CRATES / crate / "src/main.rt").is_file() else "src/lib.rt"
+    root = "src/main.rt" if is_program(crate) else "src/lib.rt"
     words = ["--crate-name", crate, root, "-L", f"dependency={KIT}/rlibs"]
     for name in ("std", *uses[crate]):
         folder = CRATES / name / "out/rlib" if name in uses else KIT / "rlibs"
         words += ["--extern", f"{name}={folder}/{name}.rlib"]
     for name in below(crate, uses):
-        words += ["-L", f"dependency={built(name).parent}"]
+        words += ["-L", f"dependency={CRATES / name}/out/rlib"]
     words += ["--antt-project", f"{KIT}/rattle/logic/antt-project.json", "--logic-built", f"{KIT}/logic_built"]
     return [*words, "--jobs", "1", "--links", f"{crate}="]
 
@@ -396,9 +410,10 @@ def main():
     if given.crates and without:
         fail(f"no mutants in {', '.join(without)}")
     crates = sorted((it for it in crates if it.mutants), key=Crate.work, reverse=True)
-    for crate in crates:
-        built(crate.name)
     store = Store(is_read=not given.anew)
+    for crate in crates:
+        if crate.recall(store):
+            build(crate.name, uses)
     with concurrent.futures.ThreadPoolExecutor(int(os.environ.get("RT_JOBS", 1))) as pool:
         for crate in pool.map(lambda it: it.try_all(store), crates):
             tried = f"{len(crate.mutants)} mutants in {crate.checks} checks"
