@@ -2,6 +2,7 @@
 use Rattle.std.proofs.Common.{◌≡◌, true, false, List, [], ◌∷◌, ◌++◌, Option, None, Some, Result, Ok, Err, IfErr, option_map, ap, refl, subst, sym, ◌∙◌, inl, inr}
 use Rattle.std.specs.Box.{box_value}
 use Rattle.std.specs.List.{slice_split}
+use Rattle.std.specs.Option.{unwrap_or}
 use Rattle.std.specs.Prelude.{codes, nat_eq, option_and_then}
 use Rattle.clap.specs.Words.{App, FailsBy, HasKind, IsAmong, Row, Text, fault_of, first_of, first_value, is_simple, is_simple_and_free, kind_of, found_of, rows_of, subcommand_name_of, subcommand_of, subcommand_rows_of, takes}
 use Rattle.clap.specs.declared.error.Error.{Error}
@@ -10,7 +11,7 @@ use Rattle.clap.specs.declared.parser.matches.ArgMatches.TheViews.{out-ArgMatche
 use Rattle.clap.specs.declared.parser.matches.Found.{Found}
 use Rattle.clap.proofs.OnLiterals.{clap_on_literals}
 use Rattle.clap.proofs.WalkLemmas.{first_value-rows}
-use Rattle.mesh_command_line.specs.CommandLine.{Asked, IsSaidOf, asked, asked_by, asked_in, asked_of, is_taken, kinds_of, check_of, draw_of, explore_of, live_of, meshrun_app, replay_history_of, replay_of, savings_of, tells_all, tells_answer, tells_outcome, tells_verdict, threads_history_of, threads_of}
+use Rattle.mesh_command_line.specs.CommandLine.{Asked, IsSaidOf, asked, asked_by, asked_in, asked_of, is_taken, kinds_of, check_of, draw_of, explore_of, live_of, meshrun_app, never_asked, never_found, never_in, replay_history_of, replay_of, savings_of, tells_all, tells_answer, tells_outcome, tells_verdict, threads_history_of, threads_of}
 
 -- the command line is one whose matches and faults `clap` tells
 pub is_told : is_simple_and_free meshrun_app ≡ true
@@ -43,6 +44,12 @@ pub asked_of_matches : (words : List Text) (app : App) (found : Option (Text × 
 unfolding asked
 asked_of_matches words app found is rows = ap asked_in (rows ∙ ap (λ a. subcommand_of a words) is)
 
+-- and which patterns they have
+pub never_of_matches : (words : List Text) (app : App) (found : Option (Text × List Row)) → app ≡ meshrun_app → found ≡ subcommand_of app words
+    → never_found found ≡ never_asked words
+unfolding never_asked
+never_of_matches words app found is rows = ap never_found (rows ∙ ap (λ a. subcommand_of a words) is)
+
 first_parts : {X A B : Type 0} (f : X → A × B) (o : Option X) → option_map (λ x. (f x).0) o ≡ option_map (λ p. p.0) (option_map f o)
 first_parts f None = refl
 first_parts f (Some x) = refl
@@ -50,6 +57,14 @@ first_parts f (Some x) = refl
 -- the name of the subcommand that was met, beside its rows
 name_of_rows : (matches : ArgMatches) (name : Text) → Some name ≡ subcommand_name_of matches → Some name ≡ option_map (λ p. p.0) (subcommand_rows_of matches)
 name_of_rows matches name is = is ∙ first_parts (λ b. ((out-SubCommand (box_value b)).name.now, rows_of (found_of (out-SubCommand (box_value b)).matches))) (out-ArgMatches matches).subcommand
+
+-- its patterns, if its matches have at most ten
+pub never_of_rows : (found : Option (Text × List Row)) (rows : List Row) (never : List Text) → Some rows ≡ option_map (λ p. p.1) found → Some never ≡ never_in rows
+    → never ≡ never_found found
+never_of_rows None rows never has few = absurd (cc has)
+never_of_rows (Some found) rows never has few =
+    let rows_are : rows ≡ found.1 = cc has in
+    ap (λ (texts : Option (List Text)). unwrap_or texts []) (few ∙ ap never_in rows_are)
 
 -- what a subcommand that was met asks for, by its name and its rows
 met : (found : Option (Text × List Row)) (name : Text) (rows : List Row) → Some name ≡ option_map (λ p. p.0) found → Some rows ≡ option_map (λ p. p.1) found
@@ -160,6 +175,13 @@ tellings_are_asked :
     }))
 unfolding clap_on_literals asked is_taken
 tellings_are_asked = ((refl, refl), (refl, refl))
+
+-- the patterns come in their order, and a replay has none
+patterns_are_asked :
+    (never_asked (spoken (codes "explore a.job --mesh 1:0 --never=one --expect a.out --never two")) ≡ codes "one" ∷ codes "two" ∷ [])
+    × (never_asked (spoken (codes "replay hello.job")) ≡ [])
+unfolding clap_on_literals never_asked
+patterns_are_asked = (refl, refl)
 
 -- two things are not told at once, and an answer needs a line, a text and a phase
 two_tellings_ask_nothing :

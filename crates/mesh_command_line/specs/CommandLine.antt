@@ -2,6 +2,7 @@
 use Rattle.std.specs.Prelude.{◌≡◌, ◌⊎◌, ◌&&◌, ◌||◌, ◌==◌, ℕ, Bool, true, false, not, List, [], ◌∷◌, Option, Some, None, codes, if◌then◌else◌, is_none, is_some, length, nat_eq, nat_le, option_and_then, option_map}
 use Rattle.std.specs.Cow.{cow_str_bytes}
 use Rattle.std.specs.List.{after_first, before_first}
+use Rattle.std.specs.Option.{unwrap_or}
 use Rattle.std.specs.Str.{bytes_eq}
 use Rattle.std.specs.Str.Parse.{digits_value, without_leading_plus}
 use Rattle.clap.specs.ValueTests.{is_unsigned_in}
@@ -404,6 +405,16 @@ asked_in (Some found) = asked_by found.0 found.1
 unfoldable pub asked : List Text → Option Asked
 asked words = asked_in (subcommand_of meshrun_app words)
 
+-- the patterns in what was found of a subcommand. There are none without a subcommand, and none are taken if more than
+-- ten are given
+abbrev pub never_found : Option (Text × List Row) → List Text
+never_found None = []
+never_found (Some found) = unwrap_or (never_in found.1) []
+
+-- the patterns that the words of a command line have
+unfoldable pub never_asked : List Text → List Text
+never_asked words = never_found (subcommand_of meshrun_app words)
+
 -- whether the words are a command line of the program
 unfoldable pub is_taken : List Text → Bool
 is_taken words = takes meshrun_app words
@@ -464,9 +475,14 @@ asking never (Savings path args) = savings_of path.now (compared_of args)
 abbrev pub asking_of : Parsed → Asked
 asking_of parsed = asking (texts_of parsed.never) parsed.args
 
--- the words ask for what was parsed
-abbrev pub IsAsked : List Text → Parsed → Type 0
-IsAsked words parsed = asked words ≡ Some (asking_of parsed)
+-- the words ask for what these arguments ask for, with the patterns that the words have
+abbrev pub IsAsked : List Text → Args → Type 0
+IsAsked words args = asked words ≡ Some (asking (never_asked words) args)
+
+-- the words ask for what was parsed, and have its patterns
+pub record IsParsed (words : List Text) (parsed : Parsed) : Type 0 where
+  pub args : IsAsked words parsed.args
+  pub never : texts_of parsed.never ≡ never_asked words
 
 -- the error that may be reported of the words: out of memory, a fault of the words, or a request for help. If the words
 -- ask for nothing, the error may also be that a value can't be read

@@ -1,6 +1,6 @@
 -- The patterns of a verdict.
 use Rattle.std.specs.Prelude.{ℕ, List, map, take}
-use Rattle.mesh_command_line.specs.declared.patterns.Patterns.{Patterns}
+use Rattle.mesh_command_line.specs.declared.pattern_list.Patterns.{Patterns}
 
 -- the texts of the patterns in the order given
 abbrev pub texts_of : Patterns → List (List ℕ)

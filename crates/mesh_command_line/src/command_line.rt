@@ -6,7 +6,7 @@ ghost use Rattle.clap.specs.Words.{app_of, first_of, found_of, kind_of, rows_of,
 ghost use Rattle.mesh_command_line.specs.Meshes.{pairs_of};
 ghost use Rattle.mesh_command_line.specs.Patterns.{texts_of};
 ghost use Rattle.mesh_command_line.specs.Subcommands.{argument_rule, subcommand_app, with_subcommands};
-ghost use Rattle.mesh_command_line.specs.CommandLine.{IsAllowedOf, IsAsked, IsNoText, IsOutOfMemory, IsSaidOf, IsStopAt, asked, asked_in, asked_of, asked_with, asking, asking_of, asks_verdict, bare_app, checked_in, checked_of, compared_in, compared_of, explored_in, explored_of, flag_in, flag_rule, given_in, group_of, is_no_pair, is_recorded_in, is_taken, mesh_rule, meshes_in, meshrun_app, never_in, number_in, number_of, number_rule, numbers_in, numbers_of, pair_of, pairs_in, replay_by, seed_in, shown_answer_of, shown_given_in, shown_in, shown_of, shown_of_text, sizes_in, sizes_of, status_of_kind, text_rule, threads_by, told_by, told_in, told_of};
+ghost use Rattle.mesh_command_line.specs.CommandLine.{IsAllowedOf, IsAsked, IsNoText, IsOutOfMemory, IsParsed, IsSaidOf, IsStopAt, asked, asked_in, asked_of, asked_with, asking, asking_of, asks_verdict, bare_app, checked_in, checked_of, compared_in, compared_of, explored_in, explored_of, flag_in, flag_rule, given_in, group_of, is_no_pair, is_recorded_in, is_taken, mesh_rule, meshes_in, meshrun_app, never_asked, never_found, never_in, number_in, number_of, number_rule, numbers_in, numbers_of, pair_of, pairs_in, replay_by, seed_in, shown_answer_of, shown_given_in, shown_in, shown_of, shown_of_text, sizes_in, sizes_of, status_of_kind, text_rule, threads_by, told_by, told_in, told_of};
 
 use crate::meshes::MOST_MESHES;
 use crate::options::{
@@ -15,7 +15,7 @@ use crate::options::{
     PAGES, PROBE, PROGRESS, RECORDED, ROUNDS, SAVINGS, SEED, SESSION_WORKERS, SHOW, STATES,
     SUBCOMMANDS, SVG, Subcommand, TO, TextOption, WITNESS, WORKERS,
 };
-use crate::patterns::MOST_PATTERNS;
+use crate::pattern_list::MOST_PATTERNS;
 use crate::status::{DONE, FAILED, FAULTY};
 use crate::{
     CheckArgs, DrawArgs, ExploreArgs, LiveArgs, Meshes, Patterns, SavingsArgs, ShownArgs,
@@ -99,19 +99,19 @@ pub struct Stop {
 /// The request of a command line, and the patterns of its verdict. The patterns are a separate field because no variant
 /// of an enum may contain them.
 #[derive(Clone, Copy)]
-pub struct Parsed<'a> {
-    pub args: Args<'a>,
-    /// The patterns that no outcome of an exploration may match. The list is empty if no pattern is given.
-    pub never: Patterns<'a>,
+struct Parsed<'a> {
+    args: Args<'a>,
+    never: Patterns<'a>,
 }
 
 /// Reads the words of a command line. The first word is the program's name. Returns the request, or the reason why the
-/// program runs no subcommand.
+/// program runs no subcommand. The request of an exploration doesn't contain the patterns of its verdict, which
+/// `patterns` returns.
 ///
 /// The words are read by `clap`, which also writes the texts of help, version and errors. The file is the word that was
 /// given, unchanged. A number is in the form that `clap` reads as a `u64`: decimal digits, with an optional plus before
 /// them. A mesh is two such numbers with a colon between them.
-pub fn arguments<'a, S: AsStr>(alloc: Global, words: &'a [S]) -> Result<Parsed<'a>, Stop>
+pub fn arguments<'a, S: AsStr>(alloc: Global, words: &'a [S]) -> Result<Args<'a>, Stop>
     ensures asked { IfOk result (IsAsked (map S.text words.now)) }
     ensures stop { IfErr result (IsStopAt (map S.text words.now)) }
     ensures passes { IfErr result
@@ -119,15 +119,30 @@ pub fn arguments<'a, S: AsStr>(alloc: Global, words: &'a [S]) -> Result<Parsed<'
     ensures small { IfErr result (λ stop. stop.status ≤ 2) }
 {
     match read_words(alloc, words) {
-        Ok(args) => Ok(args),
+        Ok(parsed) => Ok(parsed.args),
         Err(error) => Err(stop_of(alloc, &error)),
     }
 }
 
-/// Returns the request of the words, or the error. If `clap` accepts the options but the program doesn't, the error has
-/// the form of an error of `clap`.
+/// Reads the words of a command line, as `arguments` does, and returns the patterns that no outcome of an exploration
+/// may match. The list is empty if the words have no pattern, or don't ask for an exploration.
+pub fn patterns<'a, S: AsStr>(alloc: Global, words: &'a [S]) -> Result<Patterns<'a>, Stop>
+    ensures patterns { IfOk result (λ patterns. texts_of patterns ≡ never_asked (map S.text words.now)) }
+    ensures stop { IfErr result (IsStopAt (map S.text words.now)) }
+    ensures passes { IfErr result
+        (λ stop. is_taken (map S.text words.now) ≡ true → IsOutOfMemory stop ⊎ (asked (map S.text words.now) ≡ None)) }
+    ensures small { IfErr result (λ stop. stop.status ≤ 2) }
+{
+    match read_words(alloc, words) {
+        Ok(parsed) => Ok(parsed.never),
+        Err(error) => Err(stop_of(alloc, &error)),
+    }
+}
+
+/// Returns the request of the words with its patterns, or the error. If `clap` accepts the options but the program
+/// doesn't, the error has the form of an error of `clap`.
 fn read_words<'a, S: AsStr>(alloc: Global, words: &'a [S]) -> Result<Parsed<'a>, Error>
-    ensures asked { IfOk result (IsAsked (map S.text words.now)) }
+    ensures parsed { IfOk result (IsParsed (map S.text words.now)) }
     ensures kinds { IfErr result (λ error. IsSaidOf (map S.text words.now) (kind_of error)) }
     ensures passes { IfErr result (λ error. IsAllowedOf (map S.text words.now) (kind_of error)) }
 {
@@ -143,13 +158,13 @@ fn read_by<'a, S: AsStr>(
     words: &'a [S],
 ) -> Result<Parsed<'a>, Error>
     requires { app_of command.old ≡ meshrun_app }
-    ensures asked { IfOk result (IsAsked (map S.text words.now)) }
+    ensures parsed { IfOk result (IsParsed (map S.text words.now)) }
     ensures kinds { IfErr result (λ error. IsSaidOf (map S.text words.now) (kind_of error)) }
     ensures passes { IfErr result (λ error. IsAllowedOf (map S.text words.now) (kind_of error)) }
 {
     let matches = matches_of(command, words)?;
     match asked_for(&matches) {
-        Some(args) => Ok(args),
+        Some(parsed) => Ok(parsed),
         None => Err(unread(alloc, program_name(words), &matches)?),
     }
 }
@@ -234,6 +249,8 @@ fn matches_of<'a, S: AsStr>(
 ) -> Result<ArgMatches<'a>, Error>
     requires { app_of command.old ≡ meshrun_app }
     ensures asked { IfOk result (λ matches. asked_in (subcommand_rows_of matches) ≡ asked (map S.text words.now)) }
+    ensures never { IfOk result
+        (λ matches. never_found (subcommand_rows_of matches) ≡ never_asked (map S.text words.now)) }
     ensures kinds { IfErr result (λ error. IsSaidOf (map S.text words.now) (kind_of error)) }
     ensures passes { IfErr result (λ error. IsAllowedOf (map S.text words.now) (kind_of error)) }
 {
@@ -242,7 +259,9 @@ fn matches_of<'a, S: AsStr>(
 
 /// Returns the request in the matches, with its patterns. Returns `None` if the program doesn't accept the matches.
 fn asked_for<'a>(matches: &ArgMatches<'a>) -> Option<Parsed<'a>>
-    ensures { option_map asking_of result ≡ asked_in (subcommand_rows_of matches.now) }
+    ensures asked { option_map asking_of result ≡ asked_in (subcommand_rows_of matches.now) }
+    ensures never { IfSome result
+        (λ parsed. texts_of parsed.never ≡ never_found (subcommand_rows_of matches.now)) }
 {
     let (name, matches) = matches.subcommand()?;
     let never = never(matches)?;
@@ -438,11 +457,11 @@ fn never<'a>(matches: &ArgMatches<'a>) -> Option<Patterns<'a>>
     if MOST_PATTERNS < texts.len() {
         return None;
     }
-    Some(patterns(texts))
+    Some(patterns_of(texts))
 }
 
 /// Returns a list of patterns with these texts.
-fn patterns<'a>(texts: &[&'a str]) -> Patterns<'a>
+fn patterns_of<'a>(texts: &[&'a str]) -> Patterns<'a>
     requires { length texts.now ≤ 10 }
     ensures { texts_of result ≡ map (λ text. text.now) texts.now }
 {

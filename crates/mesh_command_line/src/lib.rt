@@ -1,7 +1,8 @@
 //! Reads the command line of the program `meshrun`.
 //!
-//! `arguments` reads the words with `clap`. It returns the request (`Args`) with its patterns, or the exit status and
-//! the text of a command line that runs no subcommand (`Stop`). Nothing here opens a file or prints.
+//! `arguments` reads the words with `clap`. It returns the request (`Args`), or the exit status and the text of a
+//! command line that runs no subcommand (`Stop`). `patterns` returns the patterns of the words. Nothing here opens a
+//! file or prints.
 #![tactic(auto)]
 
 mod check_args;
@@ -11,18 +12,18 @@ mod explore_args;
 mod live_args;
 mod meshes;
 mod options;
-mod patterns;
+mod pattern_list;
 mod savings_args;
 pub mod status;
 mod threads_args;
 
 pub use check_args::CheckArgs;
-pub use command_line::{Args, Parsed, Stop, arguments, unread_words};
+pub use command_line::{Args, Stop, arguments, patterns, unread_words};
 pub use draw_args::DrawArgs;
 pub use explore_args::{ExploreArgs, ShownArgs, Told};
 pub use live_args::LiveArgs;
 pub use mesh_explore::MeshPair;
 pub use meshes::Meshes;
-pub use patterns::Patterns;
+pub use pattern_list::Patterns;
 pub use savings_args::SavingsArgs;
 pub use threads_args::ThreadsArgs;

@@ -34,8 +34,8 @@ pub use draw::draw_run;
 pub use explore::explore_run;
 pub use live::live_run;
 pub use mesh_command_line::{
-    Args, CheckArgs, DrawArgs, ExploreArgs, LiveArgs, MeshPair, Meshes, Parsed, Patterns,
-    SavingsArgs, ShownArgs, Stop, ThreadsArgs, Told, arguments, unread_words,
+    Args, CheckArgs, DrawArgs, ExploreArgs, LiveArgs, MeshPair, Meshes, Patterns, SavingsArgs,
+    ShownArgs, Stop, ThreadsArgs, Told, arguments, patterns, unread_words,
 };
 pub use mesh_devices::{DeviceFault, Input, Output, Sink, Source};
 pub use mesh_judge::Begun;

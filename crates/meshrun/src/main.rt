@@ -18,8 +18,8 @@ ghost use Rattle.std.specs.Prelude.{◌≡◌, false};
 ghost use Rattle.mesh_run.specs.Runs.{IsSound};
 
 use mesh_run::{
-    Args, Begun, Criteria, Devices, ExploreArgs, Input, Output, Parsed, Patterns, Progress, Sink,
-    Source, Told, arguments, check_run, draw_run, expected_run, explore_run, live_run, order_run,
+    Args, Begun, Criteria, Devices, ExploreArgs, Input, Output, Patterns, Progress, Sink, Source,
+    Told, arguments, check_run, draw_run, expected_run, explore_run, live_run, order_run, patterns,
     replay_history_run, replay_run, savings_run, stop_run, threads_history_run, threads_run,
     unopened_run, unread_words,
 };
@@ -38,7 +38,7 @@ fn main(rt: HostRuntime) -> ExitCode {
     let mut errors = Output::new(rt.stderr());
     let status = match words(&rt) {
         Ok(words) => match arguments(rt.alloc(), words.as_slice()) {
-            Ok(parsed) => run(&rt, &rt, &parsed, output, errors),
+            Ok(args) => run(&rt, &rt, &args, words.as_slice(), output, errors),
             Err(stop) => stop_run(&stop, &mut output, &mut errors),
         },
         Err(error) => stop_run(&unread_words(&error), &mut output, &mut errors),
@@ -46,21 +46,23 @@ fn main(rt: HostRuntime) -> ExitCode {
     ExitCode::from(status)
 }
 
-/// Runs the command that the arguments ask for, and returns the exit status.
+/// Runs the command that the arguments ask for, and returns the exit status. The arguments are those of these words.
 fn run<R: Threads + Wait + Sync, O: Sink + Drop, E: Sink + Drop>(
     rt: &HostRuntime,
     threads: &R,
-    parsed: &Parsed<'_>,
+    args: &Args<'_>,
+    words: &[String],
     output: O,
     mut errors: E,
 ) -> u8
     requires { O.has_failed output ≡ false }
 {
-    let Some(path) = path_of(&parsed.args) else {
-        return run_on(rt, threads, parsed, Input::new(rt.stdin()), output, errors);
+    let Some(path) = path_of(args) else {
+        let input = Input::new(rt.stdin());
+        return run_on(rt, threads, args, words, input, output, errors);
     };
     match File::open(rt, path) {
-        Ok(file) => run_on(rt, threads, parsed, Input::new(file), output, errors),
+        Ok(file) => run_on(rt, threads, args, words, Input::new(file), output, errors),
         Err(_) => unopened_run(&mut errors),
     }
 }
@@ -89,7 +91,8 @@ fn path_of<'a>(args: &Args<'a>) -> Option<&'a str> {
 fn run_on<R: Threads + Wait + Sync, I: Source + Drop, O: Sink + Drop, E: Sink + Drop>(
     rt: &HostRuntime,
     threads: &R,
-    parsed: &Parsed<'_>,
+    args: &Args<'_>,
+    words: &[String],
     mut input: I,
     mut output: O,
     mut errors: E,
@@ -98,7 +101,7 @@ fn run_on<R: Threads + Wait + Sync, I: Source + Drop, O: Sink + Drop, E: Sink + 
     requires output { O.has_failed output ≡ false }
 {
     let alloc = rt.alloc();
-    match &parsed.args {
+    match args {
         Args::Replay(_) => replay_run(alloc, &mut input, &mut output, &mut errors),
         Args::ReplayHistory(_) => {
             replay_history_run(alloc, &mut Devices::new(input, output, errors))
@@ -113,12 +116,10 @@ fn run_on<R: Threads + Wait + Sync, I: Source + Drop, O: Sink + Drop, E: Sink + 
         Args::Draw(path, args) => {
             draw_run(alloc, path, args, &mut Devices::new(input, output, errors))
         }
-        Args::Explore(_, args) => explore(
-            rt,
-            args,
-            &parsed.never,
-            &mut Devices::new(input, output, errors),
-        ),
+        Args::Explore(_, args) => match patterns(alloc, words) {
+            Ok(never) => explore(rt, args, &never, &mut Devices::new(input, output, errors)),
+            Err(stop) => stop_run(&stop, &mut output, &mut errors),
+        },
         Args::Live(args) => live_run(alloc, args, &mut Devices::new(input, output, errors)),
         Args::Check(_, args) if args.is_ordered => {
             let mut devices = Devices::new(input, output, errors);

@@ -20,5 +20,5 @@ pub returns : goal.returns
 returns c =
     let texts = map (λ (t : Bor Text). t.now) c.in-Some.texts.now in
     let few : length c.in-Some.texts.now ≤ 10 = search rules in
-    ap Some c.patterns.ensures ∙ some_given (found_of c.args.matches.now) texts c.in-Some.ensures
+    ap Some c.patterns_of.ensures ∙ some_given (found_of c.args.matches.now) texts c.in-Some.ensures
     (rw (length-map c.in-Some.texts.now (λ (t : Bor Text). t.now)) (le-leb (length c.in-Some.texts.now) 10 few))

@@ -5,7 +5,7 @@ ghost use Rattle.std.specs.Prelude.{◌≡◌, false};
 
 use crate::memory::{Ran, SlowSource, in_memory};
 use crate::tests::check;
-use mesh_run::{Args, Criteria, Input, Source, Unwatched, arguments, explore_run};
+use mesh_run::{Args, Criteria, Input, Source, Unwatched, arguments, explore_run, patterns};
 use std::process::Abort;
 
 /// The job file of a small exploration, which has 64 states and two outcomes.
@@ -30,16 +30,16 @@ fn explored<I: Source + Drop>(rt: &(impl Abort + AllocGlobal), line: &str, input
     requires { I.has_failed input ≡ false }
 {
     let words: Vec<&str> = line.split('/').collect(rt.alloc()).expect(rt, "memory");
-    let Ok(parsed) = arguments(rt.alloc(), words.as_slice()) else {
-        panic!(rt; "words that are refused");
+    let Ok(Args::Explore(_, args)) = arguments(rt.alloc(), words.as_slice()) else {
+        panic!(rt; "words that ask for no exploration");
     };
-    let Args::Explore(_, args) = parsed.args else {
-        panic!(rt; "nothing explored");
+    let Ok(never) = patterns(rt.alloc(), words.as_slice()) else {
+        panic!(rt; "words that are refused");
     };
     let mut devices = in_memory(rt.alloc(), input);
     let criteria = Criteria {
         expected: Some(LISTED.as_bytes()),
-        never: parsed.never.as_slice(),
+        never: never.as_slice(),
     };
     let status = explore_run(rt.alloc(), &args, &criteria, &mut devices, &mut Unwatched);
     Ran::of(status, devices)

@@ -1,6 +1,6 @@
 use Rattle.std.proofs.Common.{◌≡◌, ◌+◌, ◌++◌, length, map}
 use Rattle.mesh_command_line.specs.Patterns.{texts_of}
-use Rattle.mesh_command_line.proofs.command_line.patterns.Given as goal
+use Rattle.mesh_command_line.proofs.command_line.patterns_of.Given as goal
 
 -- all texts are what was added, and behind it the rest
 abbrev pub invariant-loop-rest : goal.invariant-loop-rest
