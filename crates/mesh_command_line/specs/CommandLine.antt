@@ -18,7 +18,7 @@ use Rattle.mesh_command_line.specs.declared.check_args.CheckArgs.{CheckArgs}
 use Rattle.mesh_command_line.specs.declared.command_line.Args.{Args}
 use Rattle.mesh_command_line.specs.declared.command_line.Args.TheVariants.{Check, Draw, Explore, Live, Replay, ReplayHistory, Savings, Threads, ThreadsHistory}
 use Rattle.mesh_command_line.specs.declared.command_line.Parsed.{Parsed}
-use Rattle.mesh_command_line.specs.declared.command_line.Stop.{Stop}
+use Rattle.mesh_command_line.specs.declared.stop.Stop.{Stop}
 use Rattle.mesh_command_line.specs.declared.draw_args.DrawArgs.{DrawArgs}
 use Rattle.mesh_command_line.specs.declared.explore_args.ExploreArgs.{ExploreArgs}
 use Rattle.mesh_command_line.specs.declared.explore_args.ShownArgs.{ShownArgs}

@@ -10,9 +10,9 @@ use Rattle.mesh_command_line.specs.declared.options.Subcommand.{Subcommand}
 abbrev pub argument_rule : Argument → Rule
 argument_rule (File help) = file_rule
 argument_rule Meshes = mesh_rule
-argument_rule (Required option) = required_number option.name.now option.least option.most
-argument_rule (Default option default) = number_or option.name.now option.least option.most default.now
-argument_rule (Optional option) = number_rule option.name.now option.least option.most
+argument_rule (Required option) = required_number option.range.name.now option.range.least option.range.most
+argument_rule (Default option default) = number_or option.range.name.now option.range.least option.range.most default.now
+argument_rule (Optional option) = number_rule option.range.name.now option.range.least option.range.most
 argument_rule (Flag name help) = flag_rule name.now
 argument_rule (Text option) = text_rule option.name.now
 argument_rule (Texts option) = texts_rule option.name.now

@@ -5,20 +5,34 @@
 //! file or prints.
 #![tactic(auto)]
 
+mod check;
 mod check_args;
+mod clap_command;
 mod command_line;
+mod draw;
 mod draw_args;
+mod explore;
 mod explore_args;
+mod faults;
+mod live;
 mod live_args;
+mod mesh_texts;
 mod meshes;
+mod never;
 mod options;
 mod pattern_list;
+mod replay;
+mod savings;
 mod savings_args;
 pub mod status;
+mod stop;
+mod threads;
 mod threads_args;
+mod told;
+mod values;
 
 pub use check_args::CheckArgs;
-pub use command_line::{Args, Stop, arguments, patterns, unread_words};
+pub use command_line::{Args, arguments, patterns};
 pub use draw_args::DrawArgs;
 pub use explore_args::{ExploreArgs, ShownArgs, Told};
 pub use live_args::LiveArgs;
@@ -26,4 +40,5 @@ pub use mesh_explore::MeshPair;
 pub use meshes::Meshes;
 pub use pattern_list::Patterns;
 pub use savings_args::SavingsArgs;
+pub use stop::{Stop, unread_words};
 pub use threads_args::ThreadsArgs;

@@ -24,126 +24,189 @@ pub(crate) const GROUPS: &str = "SRC:DST";
 /// The name of the flag that asks for the number of found states.
 pub(crate) const PROGRESS: &str = "progress";
 
-/// An option with a number.
+/// The name of an option with a number, and the range of the number.
 #[derive(Clone, Copy)]
-pub(crate) struct NumberOption {
+pub(crate) struct NumberRange {
     pub(crate) name: &'static str,
-    // The name of the number in the help.
-    pub(crate) value: &'static str,
     pub(crate) least: u64,
     pub(crate) most: u64,
+}
+
+/// An option with a number. The code that reads the number needs only its range, and each text in a constant makes the
+/// proof of a function that names the constant slower.
+#[derive(Clone, Copy)]
+pub(crate) struct NumberOption {
+    pub(crate) range: NumberRange,
+    // The name of the number in the help.
+    pub(crate) value: &'static str,
     pub(crate) help: &'static str,
 }
 
-pub(crate) const PROBE: NumberOption = NumberOption {
+pub(crate) const PROBE: NumberRange = NumberRange {
     name: "probe",
-    value: "T",
     least: 0,
     most: 64,
+};
+
+const PROBE_OPTION: NumberOption = NumberOption {
+    range: PROBE,
+    value: "T",
     help: "How many rounds of tries a search makes at most, 0 to 64",
 };
 
-pub(crate) const ROUNDS: NumberOption = NumberOption {
+pub(crate) const ROUNDS: NumberRange = NumberRange {
     name: "rounds",
-    value: "R",
     least: 0,
     most: 1000,
+};
+
+const ROUNDS_OPTION: NumberOption = NumberOption {
+    range: ROUNDS,
+    value: "R",
     help: "How many times each mesher searches and meshes, 0 to 1000",
 };
 
-pub(crate) const WORKERS: NumberOption = NumberOption {
+pub(crate) const WORKERS: NumberRange = NumberRange {
     name: "workers",
-    value: "N",
     least: 1,
     most: 16,
+};
+
+const WORKERS_OPTION: NumberOption = NumberOption {
+    range: WORKERS,
+    value: "N",
     help: "How many threads make a search, 1 to 16",
 };
 
-pub(crate) const SEED: NumberOption = NumberOption {
+pub(crate) const SEED: NumberRange = NumberRange {
     name: "seed",
-    value: "S",
     least: 0,
     most: u64::MAX,
+};
+
+const SEED_OPTION: NumberOption = NumberOption {
+    range: SEED,
+    value: "S",
     help: "The seed of the random words that shuffle, 0 to 18446744073709551615",
 };
 
-pub(crate) const MESHERS: NumberOption = NumberOption {
+pub(crate) const MESHERS: NumberRange = NumberRange {
     name: "meshers",
-    value: "M",
     least: 1,
     most: 10,
+};
+
+const MESHERS_OPTION: NumberOption = NumberOption {
+    range: MESHERS,
+    value: "M",
     help: "How many threads mesh, 1 to 10",
 };
 
-pub(crate) const FROM: NumberOption = NumberOption {
+pub(crate) const FROM: NumberRange = NumberRange {
     name: "from",
-    value: "N",
     least: 1,
     most: 1048576,
+};
+
+const FROM_OPTION: NumberOption = NumberOption {
+    range: FROM,
+    value: "N",
     help: "The first line of the plan that is drawn, 1 to 1048576",
 };
 
-pub(crate) const TO: NumberOption = NumberOption {
+pub(crate) const TO: NumberRange = NumberRange {
     name: "to",
-    value: "N",
     least: 1,
     most: 1048576,
+};
+
+const TO_OPTION: NumberOption = NumberOption {
+    range: TO,
+    value: "N",
     help: "The last line of the plan that is drawn, 1 to 1048576",
 };
 
-pub(crate) const COLUMNS: NumberOption = NumberOption {
+pub(crate) const COLUMNS: NumberRange = NumberRange {
     name: "columns",
-    value: "N",
     least: 0,
     most: 64,
+};
+
+const COLUMNS_OPTION: NumberOption = NumberOption {
+    range: COLUMNS,
+    value: "N",
     help: "How many columns the picture has, 1 to 64, or 0 for as many as fit",
 };
 
-pub(crate) const PAGES: NumberOption = NumberOption {
+pub(crate) const PAGES: NumberRange = NumberRange {
     name: "pages",
-    value: "P",
     least: 1,
     most: 4096,
+};
+
+const PAGES_OPTION: NumberOption = NumberOption {
+    range: PAGES,
+    value: "P",
     help: "How many physical pages the heap has, 1 to 4096",
 };
 
-pub(crate) const HISTORY: NumberOption = NumberOption {
+pub(crate) const HISTORY: NumberRange = NumberRange {
     name: "history",
-    value: "H",
     least: 0,
     most: 65536,
+};
+
+const HISTORY_OPTION: NumberOption = NumberOption {
+    range: HISTORY,
+    value: "H",
     help: "How many entries the journal has room for, 0 to 65536",
 };
 
-pub(crate) const SESSION_WORKERS: NumberOption = NumberOption {
+pub(crate) const SESSION_WORKERS: NumberRange = NumberRange {
     name: "workers",
-    value: "N",
     least: 1,
     most: 64,
+};
+
+const SESSION_WORKERS_OPTION: NumberOption = NumberOption {
+    range: SESSION_WORKERS,
+    value: "N",
     help: "How many workers there are, 1 to 64",
 };
 
-pub(crate) const CANCEL: NumberOption = NumberOption {
+pub(crate) const CANCEL: NumberRange = NumberRange {
     name: "cancel",
-    value: "AFTER",
     least: 0,
     most: 1000,
+};
+
+const CANCEL_OPTION: NumberOption = NumberOption {
+    range: CANCEL,
+    value: "AFTER",
     help: "Cancel each mesh after so many of its steps, 0 to 1000",
 };
 
-pub(crate) const STATES: NumberOption = NumberOption {
+pub(crate) const STATES: NumberRange = NumberRange {
     name: "states",
-    value: "N",
     least: 1,
     most: 10000000,
+};
+
+const STATES_OPTION: NumberOption = NumberOption {
+    range: STATES,
+    value: "N",
     help: "How many states are kept at most, 1 to 10000000",
 };
 
-pub(crate) const WITNESS: NumberOption = NumberOption {
+pub(crate) const WITNESS: NumberRange = NumberRange {
     name: "witness",
-    value: "K",
     least: 0,
     most: 4294967295,
+};
+
+const WITNESS_OPTION: NumberOption = NumberOption {
+    range: WITNESS,
+    value: "K",
     help: "Print a job file that leads to outcome K, 0 to 4294967295, instead of the listing",
 };
 
@@ -156,61 +219,87 @@ pub(crate) struct TextOption {
     pub(crate) help: &'static str,
 }
 
-pub(crate) const SHOW: TextOption = TextOption {
-    name: "show",
+pub(crate) const SHOW: &str = "show";
+
+const SHOW_OPTION: TextOption = TextOption {
+    name: SHOW,
     value: "LINE:ANSWER:PHASE",
     help: "Print a job file in which the command at LINE of FILE gets ANSWER in PHASE of a mesh, such as 12:done:unprotect 1",
 };
 
-pub(crate) const EXPECT: TextOption = TextOption {
-    name: "expect",
+pub(crate) const EXPECT: &str = "expect";
+
+const EXPECT_OPTION: TextOption = TextOption {
+    name: EXPECT,
     value: "OUTCOMES",
     help: "Compare the outcomes with those listed in a file, and print those that are missing or unexpected",
 };
 
-pub(crate) const NEVER: TextOption = TextOption {
-    name: "never",
+pub(crate) const NEVER: &str = "never";
+
+const NEVER_OPTION: TextOption = TextOption {
+    name: NEVER,
     value: "PATTERN",
     help: "Print the first outcome that matches 'worker W: ANSWER | ANSWER ..', where * is any answer; up to 10 times",
 };
 
-pub(crate) const CONFIGURATIONS: NumberOption = NumberOption {
+pub(crate) const CONFIGURATIONS: NumberRange = NumberRange {
     name: "configurations",
-    value: "N",
     least: 1,
     most: 4294967295,
+};
+
+const CONFIGURATIONS_OPTION: NumberOption = NumberOption {
+    range: CONFIGURATIONS,
+    value: "N",
     help: "The most configurations that an object of a history of overlapping calls may have, 1 to 4294967295",
 };
 
-pub(crate) const EVERY: NumberOption = NumberOption {
+pub(crate) const EVERY: NumberRange = NumberRange {
     name: "every",
-    value: "F",
     least: 1,
     most: 4294967295,
+};
+
+const EVERY_OPTION: NumberOption = NumberOption {
+    range: EVERY,
+    value: "F",
     help: "Mesh after every F frees of objects of up to 2048 bytes, 1 to 4294967295",
 };
 
-pub(crate) const OBJECT_SEED: NumberOption = NumberOption {
+pub(crate) const OBJECT_SEED: NumberRange = NumberRange {
     name: "seed",
-    value: "S",
     least: 0,
     most: u64::MAX,
+};
+
+const OBJECT_SEED_OPTION: NumberOption = NumberOption {
+    range: OBJECT_SEED,
+    value: "S",
     help: "The seed of the random words that place objects, 0 to 18446744073709551615; 1 by default",
 };
 
-pub(crate) const FIRST_CALL: NumberOption = NumberOption {
+pub(crate) const FIRST_CALL: NumberRange = NumberRange {
     name: "from",
-    value: "CALL",
     least: 1,
     most: 4294967295,
+};
+
+const FIRST_CALL_OPTION: NumberOption = NumberOption {
+    range: FIRST_CALL,
+    value: "CALL",
     help: "The first call that the figures count, 1 to 4294967295",
 };
 
-pub(crate) const LAST_CALL: NumberOption = NumberOption {
+pub(crate) const LAST_CALL: NumberRange = NumberRange {
     name: "to",
-    value: "CALL",
     least: 1,
     most: 4294967295,
+};
+
+const LAST_CALL_OPTION: NumberOption = NumberOption {
+    range: LAST_CALL,
+    value: "CALL",
     help: "The last call that the figures count, 1 to 4294967295",
 };
 
@@ -245,7 +334,7 @@ pub(crate) struct Subcommand {
 }
 
 /// The help text of the file argument, for subcommands that read a recorded history.
-pub(crate) const HISTORY_FILE: &str = "The recorded history, or - for standard input";
+const HISTORY_FILE: &str = "The recorded history, or - for standard input";
 
 /// The subcommand `explore`.
 pub(crate) const EXPLORE: Subcommand = Subcommand {
@@ -255,12 +344,12 @@ pub(crate) const EXPLORE: Subcommand = Subcommand {
     arguments: &[
         Argument::File("The job file, whose plan leads to the initial state; - is standard input"),
         Argument::Meshes,
-        Argument::Optional(CANCEL),
-        Argument::Default(STATES, "100000"),
-        Argument::Optional(WITNESS),
-        Argument::Text(SHOW),
-        Argument::Text(EXPECT),
-        Argument::Texts(NEVER),
+        Argument::Optional(CANCEL_OPTION),
+        Argument::Default(STATES_OPTION, "100000"),
+        Argument::Optional(WITNESS_OPTION),
+        Argument::Text(SHOW_OPTION),
+        Argument::Text(EXPECT_OPTION),
+        Argument::Texts(NEVER_OPTION),
         Argument::Flag(
             PROGRESS,
             "Print the number of states found on standard error, once a second, even if it is no terminal",
@@ -275,15 +364,15 @@ pub(crate) const SAVINGS: Subcommand = Subcommand {
     example: "Example: meshrun savings histories/savings/shell_cache.history --every 50",
     arguments: &[
         Argument::File(HISTORY_FILE),
-        Argument::Default(EVERY, "10000"),
-        Argument::Default(PROBE, "64"),
-        Argument::Optional(OBJECT_SEED),
+        Argument::Default(EVERY_OPTION, "10000"),
+        Argument::Default(PROBE_OPTION, "64"),
+        Argument::Optional(OBJECT_SEED_OPTION),
         Argument::Flag(
             FIRST_FIT,
             "Put each object into the first free slot of its group instead of a random one",
         ),
-        Argument::Default(FIRST_CALL, "1"),
-        Argument::Default(LAST_CALL, "4294967295"),
+        Argument::Default(FIRST_CALL_OPTION, "1"),
+        Argument::Default(LAST_CALL_OPTION, "4294967295"),
         Argument::Flag(SVG, "Print a plot as an SVG picture instead of the table"),
     ],
 };
@@ -308,11 +397,11 @@ pub(crate) const SUBCOMMANDS: &[Subcommand] = &[
         example: "Example: meshrun threads jobs/examples/threads.job --probe 8 --rounds 3 --workers 2 --seed 1 --meshers 2",
         arguments: &[
             Argument::File("The job file, whose plan is not used; - is standard input"),
-            Argument::Required(PROBE),
-            Argument::Required(ROUNDS),
-            Argument::Required(WORKERS),
-            Argument::Required(SEED),
-            Argument::Default(MESHERS, "1"),
+            Argument::Required(PROBE_OPTION),
+            Argument::Required(ROUNDS_OPTION),
+            Argument::Required(WORKERS_OPTION),
+            Argument::Required(SEED_OPTION),
+            Argument::Default(MESHERS_OPTION, "1"),
             Argument::Flag(
                 RECORDED,
                 "Print the history of all threads as a recorded history instead of each worker's answers",
@@ -325,9 +414,9 @@ pub(crate) const SUBCOMMANDS: &[Subcommand] = &[
         example: "Example: meshrun draw jobs/examples/mesh.job > mesh.svg",
         arguments: &[
             Argument::File("The job file to draw; - is standard input"),
-            Argument::Default(FROM, "1"),
-            Argument::Default(TO, "1048576"),
-            Argument::Default(COLUMNS, "0"),
+            Argument::Default(FROM_OPTION, "1"),
+            Argument::Default(TO_OPTION, "1048576"),
+            Argument::Default(COLUMNS_OPTION, "0"),
         ],
     },
     Subcommand {
@@ -335,9 +424,9 @@ pub(crate) const SUBCOMMANDS: &[Subcommand] = &[
         about: "Answer the lines of standard input one by one, on a new heap",
         example: "Example: printf 'run 0 new 0 16 0\\nreport\\n' | meshrun live",
         arguments: &[
-            Argument::Default(PAGES, "4096"),
-            Argument::Default(HISTORY, "65536"),
-            Argument::Default(SESSION_WORKERS, "64"),
+            Argument::Default(PAGES_OPTION, "4096"),
+            Argument::Default(HISTORY_OPTION, "65536"),
+            Argument::Default(SESSION_WORKERS_OPTION, "64"),
         ],
     },
     EXPLORE,
@@ -347,7 +436,7 @@ pub(crate) const SUBCOMMANDS: &[Subcommand] = &[
         example: "Example: meshrun check histories/overlapping/lost_store.history",
         arguments: &[
             Argument::File(HISTORY_FILE),
-            Argument::Default(CONFIGURATIONS, "100000"),
+            Argument::Default(CONFIGURATIONS_OPTION, "100000"),
             Argument::Flag(
                 ORDER,
                 "Print calls that overlap in an order that explains them, as a history of version 1, instead of the verdict",

@@ -1,0 +1,129 @@
+//! The errors for options that `clap` accepts, but the program doesn't.
+ghost use Rattle.std.specs.Prelude.{◌≡◌, IfOk};
+ghost use Rattle.clap.specs.Words.{kind_of};
+
+use crate::clap_command::{PROGRAM, subcommand_of};
+use crate::mesh_texts::{first_unread, meshes};
+use crate::never::never;
+use crate::options::{EXPLORE, MESH, SAVINGS, SHOW, Subcommand};
+use crate::told::shown_answer;
+use clap::error::ErrorKind;
+use clap::{ArgMatches, Command, Error};
+use std::alloc::{AllocError, Global};
+use std::convert::AsStr;
+
+/// The error message if options of `explore` exclude each other.
+const TOLD_TWICE: &str = "--witness, --show and a verdict (--expect, --never) exclude each other";
+
+/// The error message if more than ten patterns are given.
+const MANY_PATTERNS: &str = "the argument '--never <PATTERN>' cannot be used more than 10 times";
+
+/// The error message if more than ten meshes are given.
+const MANY_MESHES: &str = "the argument '--mesh <SRC:DST>' cannot be used more than 10 times";
+
+/// The error message if options of `savings` can't be combined.
+const UNREAD_SAVINGS: &str =
+    "--seed and --first-fit exclude each other, and --from is at most --to";
+
+/// Returns the name of the program for usage lines. As in usage lines of `clap`, the first word is a path, and the name
+/// is the last part of this path. Without a first word, the name is `meshrun`.
+pub(crate) fn program_name<'a, S: AsStr>(words: &'a [S]) -> &'a str {
+    let Some(word) = words.first() else {
+        return PROGRAM;
+    };
+    let path = word.as_str();
+    match path.rsplit_once('/') {
+        Some((_, name)) => name,
+        None => path,
+    }
+}
+
+/// Returns the error for options of `explore` or `savings` that `clap` accepts, but the program doesn't. The only error
+/// of the call itself is an allocation failure.
+pub(crate) fn unread<'a>(
+    alloc: Global,
+    program: &str,
+    matches: &ArgMatches<'a>,
+) -> Result<Error, AllocError>
+    ensures { IfOk result (λ error. kind_of error ≡ ErrorKind.ValueValidation) }
+{
+    match matches.subcommand() {
+        Some(("explore", matches)) => explore_fault(alloc, program, matches),
+        _ => savings_fault(alloc, program),
+    }
+}
+
+/// Returns the error for options of `explore` that the program doesn't accept.
+fn explore_fault<'a>(
+    alloc: Global,
+    program: &str,
+    matches: &ArgMatches<'a>,
+) -> Result<Error, AllocError>
+    ensures { IfOk result (λ error. kind_of error ≡ ErrorKind.ValueValidation) }
+{
+    let message = explore_message(alloc, matches)?;
+    fault_of(alloc, program, &EXPLORE, message.as_str())
+}
+
+/// Returns the error for options of `savings` that the program doesn't accept.
+fn savings_fault(alloc: Global, program: &str) -> Result<Error, AllocError>
+    ensures { IfOk result (λ error. kind_of error ≡ ErrorKind.ValueValidation) }
+{
+    fault_of(alloc, program, &SAVINGS, UNREAD_SAVINGS)
+}
+
+/// Returns an error about a subcommand: the message, and the subcommand's usage. It has the form of an error of `clap`.
+fn fault_of(
+    alloc: Global,
+    program: &str,
+    subcommand: &Subcommand,
+    message: &str,
+) -> Result<Error, AllocError>
+    ensures { IfOk result (λ error. kind_of error ≡ ErrorKind.ValueValidation) }
+{
+    let mut command = named_command(alloc, program, subcommand)?;
+    command.error(ErrorKind::ValueValidation, message)
+}
+
+/// Returns the `clap` command of a subcommand of this program, whose usage line has the names of both. The only error
+/// is an allocation failure.
+fn named_command<'a>(
+    alloc: Global,
+    program: &str,
+    subcommand: &Subcommand,
+) -> Result<Command<'a>, AllocError> {
+    let name = format!(in alloc; "{program} {}", subcommand.name)?;
+    subcommand_of(alloc, subcommand)?.bin_name(name.as_str())
+}
+
+/// Returns the message about options of `explore` that the program doesn't accept. The reasons are meshes that can't be
+/// read or are too many, more than ten patterns, an answer that can't be read, and options that exclude each other.
+fn explore_message<'a>(alloc: Global, matches: &ArgMatches<'a>) -> Result<String, AllocError> {
+    if meshes(matches).is_none() {
+        return mesh_message(alloc, matches);
+    }
+    if never(matches).is_none() {
+        return String::from_str(alloc, MANY_PATTERNS);
+    }
+    match matches.get_str(SHOW) {
+        Some(text) if shown_answer(text).is_none() => format!(in alloc;
+            "invalid value '{text}' for '--show <LINE:ANSWER:PHASE>': the number of a line, an answer and a phase with colons between them"
+        ),
+        _ => String::from_str(alloc, TOLD_TWICE),
+    }
+}
+
+/// Returns the message about meshes that the program doesn't accept. The message names the first text that is no pair
+/// of groups. If each text is a pair of groups, the message is that there are too many meshes.
+fn mesh_message<'a>(alloc: Global, matches: &ArgMatches<'a>) -> Result<String, AllocError> {
+    let unread = match matches.get_strs(MESH) {
+        Some(texts) => first_unread(texts),
+        None => None,
+    };
+    match unread {
+        Some(text) => format!(in alloc;
+            "invalid value '{text}' for '--mesh <SRC:DST>': two group numbers from 0 to 65535 with a colon between them"
+        ),
+        None => String::from_str(alloc, MANY_MESHES),
+    }
+}
