@@ -25,8 +25,9 @@ LINK = re.compile(r"\[[^\]]*\]\(([^)\s]+)\)")
 CODE = re.compile(r"`([^`]+)`")
 NAME = re.compile(r"(?:mesh|model)_\w+")
 RUST = re.compile(r"(?ms)^```rust\n(.*?)^```")
-# A path in backticks begins with one of these, or with a crate's name.
-FOLDERS = {"crates", "docs", "tools", "jobs", "histories", "examples", "src", "specs", "proofs", "must-fail", "mutants"}
+# The folders of a crate. A path in backticks begins with one of FOLDERS, or with a crate's name.
+INSIDE = {"src", "specs", "proofs", "must-fail", "mutants", "shows"}
+FOLDERS = {"crates", "docs", "tools", "jobs", "histories", "examples", *INSIDE}
 
 
 def sources(suffix):
@@ -73,7 +74,7 @@ def is_path(text):
 def has_file(page, path):
     """Whether a path exists: from the top, among the crates, or in the page's folder. NAME, CRATE and .. are any name."""
     pattern = re.sub(r"NAME|\bName|CRATE|\{[^}]*\}|\.\.", "*", path.strip("/"))
-    is_inside = path.split("/")[0] in ("src", "specs", "proofs", "must-fail", "mutants")
+    is_inside = path.split("/")[0] in INSIDE
     places = [TOP, CRATES, page.parent, *(CRATES.iterdir() if is_inside else [])]
     return any(next(place.glob(pattern), None) for place in places)
 
