@@ -56,6 +56,8 @@ FLAGS = ("--fail-alloc", "--fail-io", "--short-io")
 SHOWN, NONE, DIFFERS, BAD = "shown", "no run shows it", "DIFFERS", "BAD"
 # The maximum time of a run of the compiled program.
 SECONDS = "60"
+# The line that `rt try --fail-alloc` adds to standard error.
+ALLOCATIONS = re.compile(r"(?m)^allocations: .*\n")
 
 # A run of a program or, if `is_test`, of a test; then `words` is the test's name.
 Run = collections.namedtuple("Run", "crate words flags stdin is_test")
@@ -227,13 +229,16 @@ class Tree:
     @contextlib.contextmanager
     def with_texts(self, texts):
         """Replaces the texts of these files, and restores them at the end."""
-        for path, text in texts.items():
-            (self.top / path).write_text(text, encoding="utf-8")
+        before = {path: (self.top / path).read_text(encoding="utf-8") for path in texts}
+        self._write(texts)
         try:
             yield
         finally:
-            for path in texts:
-                shutil.copy2(TOP / path, self.top / path)
+            self._write(before)
+
+    def _write(self, texts):
+        for path, text in texts.items():
+            (self.top / path).write_text(text, encoding="utf-8")
 
     def results(self, runs):
         """Makes runs of one program with one build and the same flags, and returns their results."""
@@ -247,7 +252,7 @@ class Tree:
                 pathlib.Path(folder, f"{name}.args").write_text(words, encoding="utf-8")
             out, err = self._try(runs[0].crate, ["--cases", folder, "--seconds", SECONDS, *runs[0].flags])
         stdouts = texts_after(r"(?m)^== (\w+)\n", out)
-        stderrs = texts_before(r"(?m)^case=(\w+) (.*)\n", err)
+        stderrs = texts_before(r"(?m)^case=(\w+) (.*)\n", ALLOCATIONS.sub("", err) if runs[0].flags else err)
         if set(stdouts) != set(names) or set(stderrs) != set(names):
             raise BadRow(f"rt try made no run: {(out + err)[-400:]!r}")
         return [result_of(stdouts[name], *stderrs[name]) for name in names]
@@ -293,8 +298,11 @@ class Store:
     """The results that earlier runs kept on this machine."""
 
     def __init__(self, files, is_read):
-        self.files, self.is_read, self.keys, self.lock = files, is_read, {}, threading.Lock()
-        self.uses = libraries()
+        self.is_read, self.uses, self.sums = is_read, libraries(), {}
+        for crate in self.uses:
+            own = (file for file in files if file.startswith(f"crates/{crate}/src/"))
+            parts = (f"{file}\0".encode() + (TOP / file).read_bytes() for file in own)
+            self.sums[crate] = hashlib.sha256(b"\0".join(parts)).hexdigest()
 
     def place(self, run, texts):
         """Returns the file for the result of a run in which the files have these texts."""
@@ -303,14 +311,8 @@ class Store:
 
     def _key(self, crate):
         """Returns a hash of the toolchain, and of the sources of a crate and the crates below it."""
-        with self.lock:
-            if crate not in self.keys:
-                whole = hashlib.sha256((KIT / "KIT-ID").read_bytes())
-                for name in (*below(crate, self.uses), crate):
-                    for file in (it for it in self.files if it.startswith(f"crates/{name}/src/")):
-                        whole.update(f"{file}\0".encode() + (TOP / file).read_bytes())
-                self.keys[crate] = whole.hexdigest()
-            return self.keys[crate]
+        parts = [self.sums[name] for name in (*below(crate, self.uses), crate)]
+        return "\0".join([(KIT / "KIT-ID").read_text(encoding="utf-8"), *parts])
 
     def get(self, run, texts):
         """Returns the kept result of a run, or None."""

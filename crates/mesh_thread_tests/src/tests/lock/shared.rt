@@ -205,6 +205,9 @@ const MADE: (Call, Answer) = (Call::New(0, 2048), Answer::Object(0, 0x1000));
 /// A load of the first two bytes of the object in cell 0, with its answer.
 const READ: (Call, Answer) = (Call::Get(0, 0, 2), Answer::Bytes(&[0, 0]));
 
+/// A `Free` by cell 0 as the first call of a book, with its answer.
+const NOT_FREED: (Call, Answer) = (Call::Free(0), Answer::Refused(Refusal::Empty));
+
 /// The book beside the one that is finished.
 #[derive(Clone, Copy)]
 enum Beside {
@@ -229,7 +232,7 @@ impl Beside {
 
 /// Cases by name: the other book, the calls before a book is finished, the places of the seats that `finish` gets, and
 /// the fault that it returns.
-static MISFITS: [(&str, Beside, &[Turn], &[usize], FinishError); 7] = [
+static MISFITS: [(&str, Beside, &[Turn], &[usize], FinishError); 8] = [
     (
         "an entry of no call of seat 0",
         Beside::Two,
@@ -276,6 +279,17 @@ static MISFITS: [(&str, Beside, &[Turn], &[usize], FinishError); 7] = [
         "a read that saw another journal",
         Beside::Two,
         &[(Asked::Other, 3, MADE), (Asked::Other, 0, READ)],
+        &[0, 1],
+        FinishError::ReadDiffers { seat: 0, call: 0 },
+    ),
+    (
+        "a read with another book's answer, after as many entries",
+        Beside::Two,
+        &[
+            (Asked::Own, 1, NOT_FREED),
+            (Asked::Other, 3, MADE),
+            (Asked::Other, 0, READ),
+        ],
         &[0, 1],
         FinishError::ReadDiffers { seat: 0, call: 0 },
     ),
