@@ -34,7 +34,7 @@ pub use mesh_class::{Class, all_classes, class_of};
 pub use mesh_lock::{Ended, FinishError, Kept, OpenError, Seat};
 pub use mesh_mutator::{Attempt, Book, Command, Entry, Journal, Roots};
 pub use mesh_search::{
-    Candidate, ClassView, Found, Pair, SearchError, search, search_one, shuffle,
+    Candidate, ClassView, Found, Pairs, SearchError, search, search_one, shuffle,
 };
 pub use mesh_shared::{
     Actor, Gate, MeshPlan, NoGate, Point, RunError, Shared, run_abandoned, run_threads,

@@ -1,7 +1,7 @@
 //! Cases that search the views of the worked example's groups.
 use crate::ends::{CaseError, End, expect};
 use mesh_mutator::{Attempt, Book, Command};
-use mesh_search::{ClassView, Found, NoGate, Pair, search, search_one, shuffle};
+use mesh_search::{ClassView, Found, NoGate, search, search_one, shuffle};
 use std::alloc::Global;
 use std::sync::Wait;
 use std::thread::Threads;
@@ -50,17 +50,8 @@ fn is_worked(found: &Found) -> bool {
 }
 
 /// Whether these pairs are those of the worked example.
-fn are_worked(found: &[Pair]) -> bool {
-    if found.len() != PAIRS.len() {
-        return false;
-    }
-    for k in 0..PAIRS.len() {
-        let pair = &found[k];
-        if pair.source != PAIRS[k].0 || pair.destination != PAIRS[k].1 {
-            return false;
-        }
-    }
-    true
+fn are_worked(found: &[(u32, u32)]) -> bool {
+    found == PAIRS.as_slice()
 }
 
 /// Returns `Ok` if a search of the view at a place found the right pairs: those of the worked example in the last view,

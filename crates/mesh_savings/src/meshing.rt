@@ -1,6 +1,7 @@
 //! The heap that meshes.
-ghost use Rattle.std.specs.Prelude.{◌≡◌, ◌+◌, ◌*◌, ◌<◌, ◌^◌, IfOk, OnOk, length};
+ghost use Rattle.std.specs.Prelude.{◌≡◌, ◌+◌, ◌*◌, ◌<◌, ◌^◌, IfOk, OnOk, length, map};
 ghost use Rattle.mesh_placement.specs.Records.{KeepsRecords};
+ghost use Rattle.mesh_search.specs.Pairs.{pairing};
 ghost use Rattle.mesh_savings.specs.Mesher.{Fits, IsAsBefore, meshing_of};
 ghost use Rattle.mesh_savings.specs.Meshing.{IsAfterPairs, class_meshed, class_sizes, classes_meshed, pair_meshed, pairs_meshed};
 
@@ -8,7 +9,7 @@ use crate::counts::MeshCounts;
 use crate::words::draw;
 use mesh_class::{Class, all_classes};
 use mesh_placement::Placement;
-use mesh_search::{Pair, search_one};
+use mesh_search::search_one;
 use rand_xoshiro::Xoshiro256PlusPlus;
 use std::alloc::{AllocError, Global};
 
@@ -21,15 +22,15 @@ pub(crate) struct Mesher {
 }
 
 impl Mesher {
-    /// Meshes a pair of groups. If the mesh is refused, counts the refusal instead.
-    fn mesh_pair(&mut self, pair: Pair)
+    /// Meshes the group `source` into the group `destination`. If the mesh is refused, counts the refusal instead.
+    fn mesh_pair(&mut self, source: u32, destination: u32)
         requires { Fits self.old.counts 1 }
-        ensures value { meshing_of self.new ≡ pair_meshed (meshing_of self.old) pair }
+        ensures value { meshing_of self.new ≡ pair_meshed (meshing_of self.old) (pairing (source, destination)) }
         ensures counts { IsAfterPairs self.old.counts self.new.counts 1 }
         ensures kept { IsAsBefore self.old self.new }
     {
         self.placement.sound();
-        match self.placement.mesh(pair.source, pair.destination) {
+        match self.placement.mesh(source, destination) {
             Ok(meshed) => {
                 self.counts.meshes += 1;
                 self.counts.moved += u64::from(meshed.bytes);
@@ -38,15 +39,16 @@ impl Mesher {
         }
     }
 
-    /// Meshes pairs, in order.
-    fn mesh_pairs(&mut self, pairs: &[Pair])
+    /// Meshes pairs of a source and a destination, in order.
+    fn mesh_pairs(&mut self, pairs: &[(u32, u32)])
         requires { Fits self.old.counts (length pairs.now) }
-        ensures value { meshing_of self.new ≡ pairs_meshed (meshing_of self.old) pairs.now }
+        ensures value { meshing_of self.new ≡ pairs_meshed (meshing_of self.old) (map pairing pairs.now) }
         ensures counts { IsAfterPairs self.old.counts self.new.counts (length pairs.now) }
         ensures kept { IsAsBefore self.old self.new }
     {
         for pair in pairs {
-            self.mesh_pair(*pair);
+            let (source, destination) = *pair;
+            self.mesh_pair(source, destination);
         }
     }
 

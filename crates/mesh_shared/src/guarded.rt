@@ -12,19 +12,23 @@ ghost use Rattle.mesh_lock.specs.CallBudgets.{IsSpent, IsUsedUp};
 use mesh_class::Class;
 use mesh_lock::CallBudget;
 use mesh_mutator::{Book, Refusal};
-use mesh_search::Pair;
 use mesh_steps::StepDone;
 
-/// Begins a mesh of `pair` with the book's `begin`. If the book doesn't refuse, counts the call in `calls`.
-pub(crate) fn begin(book: &mut Book, pair: Pair, calls: &mut CallBudget) -> Result<u32, Refusal>
+/// Begins a mesh with the book's `begin`. If the book doesn't refuse, counts the call in `calls`.
+pub(crate) fn begin(
+    book: &mut Book,
+    source: u32,
+    destination: u32,
+    calls: &mut CallBudget,
+) -> Result<u32, Refusal>
     requires { IsUsedUp calls.old → ⊥ }
     ensures answered { IsAnswered KeepsBook book.old book.new
-        (begin mesh_of_class (table_of_book book.old) pair.source pair.destination) result
-        (IsMeshBegun mesh_of_class book.old.heap book.new.heap pair.source pair.destination) }
+        (begin mesh_of_class (table_of_book book.old) source destination) result
+        (IsMeshBegun mesh_of_class book.old.heap book.new.heap source destination) }
     ensures counted { OnOk result (IsSpent calls.old calls.new) }
     ensures uncounted { OnErr result (calls.new ≡ calls.old) }
 {
-    let left = book.begin(pair.source, pair.destination)?;
+    let left = book.begin(source, destination)?;
     calls.spend();
     Ok(left)
 }

@@ -9,7 +9,7 @@ use crate::plan::MeshPlan;
 use crate::stops::EarlyExit;
 use mesh_class::Class;
 use mesh_lock::{CallBudget, Shared};
-use mesh_search::{Actor, ClassView, Found, Gate, Pair, Point, search};
+use mesh_search::{Actor, ClassView, Found, Gate, Point, search};
 use mesh_steps::StepDone;
 use model_words::Refusal;
 use std::alloc::{AllocError, Global};
@@ -190,7 +190,7 @@ impl<'a, R: Threads + Wait + Sync, G: Gate + Sync> Mesher<'a, R, G> {
 
     /// Meshes pairs of a class one after another, as long as calls are left. Returns the number of pairs that were
     /// either refused or meshed until no step was left.
-    fn mesh_pairs(&self, class: Class, pairs: &[Pair], calls: &mut CallBudget) -> usize
+    fn mesh_pairs(&self, class: Class, pairs: &[(u32, u32)], calls: &mut CallBudget) -> usize
         ensures whole { (IsUsedUp calls.new → ⊥) → result ≡ length pairs.now }
         ensures over { IsUsedUp calls.old → IsUsedUp calls.new }
         ensures most { calls.new.most ≡ calls.old.most }
@@ -209,12 +209,18 @@ impl<'a, R: Threads + Wait + Sync, G: Gate + Sync> Mesher<'a, R, G> {
 
     /// Begins a mesh of a pair, and makes its steps until no step is left or the calls are used up. Returns the number
     /// of steps that are left. Returns the refusal if `begin` or a step is refused.
-    fn mesh_pair(&self, class: Class, pair: Pair, calls: &mut CallBudget) -> Result<u32, Refusal>
+    fn mesh_pair(
+        &self,
+        class: Class,
+        pair: (u32, u32),
+        calls: &mut CallBudget,
+    ) -> Result<u32, Refusal>
         requires { IsUsedUp calls.old → ⊥ }
         ensures ended { (IsUsedUp calls.new → ⊥) → IfOk result (λ left. left ≡ 0) }
         ensures most { calls.new.most ≡ calls.old.most }
     {
-        let mut left = self.begin(pair, calls)?;
+        let (source, destination) = pair;
+        let mut left = self.begin(source, destination, calls)?;
         for _ in self.rt.forever() {
             if calls.is_used_up() {
                 return Ok(left);
@@ -228,11 +234,16 @@ impl<'a, R: Threads + Wait + Sync, G: Gate + Sync> Mesher<'a, R, G> {
     }
 
     /// Begins a mesh under the exclusive lock. Returns the number of the mesh's steps, or the refusal.
-    fn begin(&self, pair: Pair, calls: &mut CallBudget) -> Result<u32, Refusal>
+    fn begin(&self, source: u32, destination: u32, calls: &mut CallBudget) -> Result<u32, Refusal>
         requires { IsUsedUp calls.old → ⊥ }
         ensures { calls.new.most ≡ calls.old.most }
     {
-        let left = begin(&mut self.shared.book.write(self.rt), pair, calls)?;
+        let left = begin(
+            &mut self.shared.book.write(self.rt),
+            source,
+            destination,
+            calls,
+        )?;
         self.arrive(Point::Begun);
         Ok(left)
     }

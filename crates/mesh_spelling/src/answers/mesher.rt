@@ -1,13 +1,14 @@
 //! The answer lines of a mesher's calls.
-ghost use Rattle.std.specs.Prelude.{◌≡◌, ◌++◌, decimal, OnOk};
+ghost use Rattle.std.specs.Prelude.{◌≡◌, ◌++◌, decimal, map, OnOk};
 ghost use Rattle.std.specs.List.{flat_map};
 ghost use Rattle.model_jobs.specs.Texts.{answer_text, field, found_text, kind_text, left_text, pair_text, report_text};
 ghost use Rattle.mesh_page_heap.specs.PageHeap.{counts_told};
+ghost use Rattle.mesh_search.specs.Pairs.{pairing};
 ghost use Rattle.mesh_spelling.specs.Answers.{counted_text, step_told};
 
 use super::{add_decimal, add_refusal};
 use mesh_running::kind_name;
-use mesh_search::{Found, Pair};
+use mesh_search::Found;
 use mesh_steps::{Report, StepDone};
 use model_words::Refusal;
 use std::alloc::AllocError;
@@ -64,8 +65,8 @@ pub fn add_found(text: &mut Vec<u8>, found: &Found) -> Result<(), AllocError>
 }
 
 /// Adds pairs, a space before each.
-fn add_pairs(text: &mut Vec<u8>, pairs: &[Pair]) -> Result<(), AllocError>
-    ensures { OnOk result (text.new.items ≡ text.old.items ++ flat_map pair_text pairs.now) }
+fn add_pairs(text: &mut Vec<u8>, pairs: &[(u32, u32)]) -> Result<(), AllocError>
+    ensures { OnOk result (text.new.items ≡ text.old.items ++ flat_map pair_text (map pairing pairs.now)) }
 {
     for pair in pairs {
         add_pair(text, *pair)?;
@@ -74,11 +75,12 @@ fn add_pairs(text: &mut Vec<u8>, pairs: &[Pair]) -> Result<(), AllocError>
 }
 
 /// Adds a space and `SRC:DST`.
-fn add_pair(text: &mut Vec<u8>, pair: Pair) -> Result<(), AllocError>
-    ensures { OnOk result (text.new.items ≡ text.old.items ++ pair_text pair) }
+fn add_pair(text: &mut Vec<u8>, pair: (u32, u32)) -> Result<(), AllocError>
+    ensures { OnOk result (text.new.items ≡ text.old.items ++ pair_text (pairing pair)) }
 {
-    add_count(text, b" ", pair.source)?;
-    add_count(text, b":", pair.destination)
+    let (source, destination) = pair;
+    add_count(text, b" ", source)?;
+    add_count(text, b":", destination)
 }
 
 /// Adds `report objects A bytes B mapped C taken D saved E`.

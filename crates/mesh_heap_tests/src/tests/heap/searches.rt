@@ -1,7 +1,7 @@
 //! The worked examples of searches, on the views of a heap and of a book.
 use mesh_class::{Class, class_of};
 use mesh_mutator::{Book, Command};
-use mesh_search::{ClassView, Pair, search_one};
+use mesh_search::{ClassView, search_one};
 use mesh_steps::{Heap, Ref};
 use std::process::Abort;
 
@@ -17,16 +17,14 @@ const LAST: u8 = 7;
 /// The random words of the worked searches.
 static WORDS: [u64; 3] = [2, 0, 5];
 
-/// Returns a pair of two group numbers, source first.
-fn pair(source: u32, destination: u32) -> Pair {
-    Pair {
-        source,
-        destination,
-    }
-}
-
 /// Asserts the pairs that a search of a view finds in `t` rounds, and the number of its tries.
-fn check(rt: &(impl Abort + AllocGlobal), view: &ClassView, t: u32, pairs: &[Pair], probes: u64) {
+fn check(
+    rt: &(impl Abort + AllocGlobal),
+    view: &ClassView,
+    t: u32,
+    pairs: &[(u32, u32)],
+    probes: u64,
+) {
     let found = search_one(rt.alloc(), view, &WORDS, t).expect(rt, "memory");
     let is_found = found.probes == probes && found.pairs.as_slice() == pairs;
     assert!(rt; is_found, "in {t} rounds: {} tries", found.probes);
@@ -36,7 +34,7 @@ fn check(rt: &(impl Abort + AllocGlobal), view: &ClassView, t: u32, pairs: &[Pai
 fn check_four(rt: &(impl Abort + AllocGlobal), view: &ClassView) {
     check(rt, view, 0, &[], 0);
     check(rt, view, 1, &[], 2);
-    check(rt, view, 2, &[pair(1, 2), pair(3, 0)], 4);
+    check(rt, view, 2, &[(1, 2), (3, 0)], 4);
 }
 
 /// Returns the reference to the object with a serial. Each object is half a page after the one before.
@@ -85,7 +83,7 @@ fn check_heap(rt: &(impl Abort + AllocGlobal), heap: &Heap, class: Class) {
 
 /// Asserts the result of a search in the view that is left once the last object is freed too.
 fn check_three(rt: &(impl Abort + AllocGlobal), view: &ClassView) {
-    check(rt, view, 2, &[pair(0, 2)], 1);
+    check(rt, view, 2, &[(0, 2)], 1);
 }
 
 /// Asserts the results of searches in a filled heap, before and after its last object is freed too.

@@ -3,7 +3,7 @@ ghost use Rattle.std.specs.Prelude.{◌≡◌, ◌<◌, ◌∷◌, [], length};
 ghost use Rattle.mesh_search.specs.Views.{AreNamed, candidate_at};
 
 use crate::tests::heap::searches::worked_heap;
-use crate::tests::search::worked::{WORDS, check_count, has_found, pair};
+use crate::tests::search::worked::{WORDS, check_count, has_found};
 use mesh_class::class_of;
 use mesh_search::{ClassView, shuffle, split_mesh};
 use std::process::Abort;
@@ -36,6 +36,6 @@ fn a_shuffled_order_is_searched(rt: HostRuntime) -> Result<(), Fail> {
     let view = worked_heap(&rt).view(alloc, class_of(2048).expect(&rt, "a class"))?;
     check_four(&rt, &view);
     let found = split_mesh(alloc, &view, &[2, 0, 3, 1], 2)?;
-    assert!(rt; has_found(&found, &[pair(1, 2), pair(3, 0)], 4));
+    assert!(rt; has_found(&found, &[(1, 2), (3, 0)], 4));
     Ok(())
 }

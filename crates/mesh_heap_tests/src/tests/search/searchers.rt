@@ -3,7 +3,7 @@ ghost use Rattle.std.specs.Prelude.{◌≤◌};
 
 use crate::tests::heap::searches::worked_heap;
 use crate::tests::search::indexes::{SIZES, views_of};
-use crate::tests::search::worked::{WORDS, check_count, has_found, pair};
+use crate::tests::search::worked::{WORDS, check_count, has_found};
 use mesh_search::{Actor, ClassView, Found, Gate, NoGate, Point, search, search_one};
 use rand_core::{Rng, SeedableRng};
 use rand_xoshiro::Xoshiro256PlusPlus;
@@ -328,5 +328,5 @@ fn check_meeting<R: Threads + Wait + Sync + Abort + AllocGlobal + Clock>(
 /// Asserts that the last of ten searches found the pairs of the worked example.
 fn check_worked(rt: &impl Abort, found: &[Found]) {
     check_count(rt, found.len(), 10);
-    assert!(rt; has_found(&found[9], &[pair(1, 2), pair(3, 0)], 4));
+    assert!(rt; has_found(&found[9], &[(1, 2), (3, 0)], 4));
 }

@@ -2,7 +2,7 @@
 ghost use Rattle.std.specs.Prelude.{◌≡◌};
 
 use crate::tests::search::indexes::views_of;
-use mesh_search::{ClassView, Found, Pair, part, search_one, shuffle};
+use mesh_search::{ClassView, Found, part, search_one, shuffle};
 use std::process::Abort;
 
 /// The occupied slots of four groups of the class 2048. Of eight objects the second, fourth, fifth and seventh are
@@ -12,16 +12,8 @@ static WORKED: [u32; 4] = [0b01, 0b01, 0b10, 0b10];
 /// The random words of the worked searches.
 pub(crate) static WORDS: [u64; 3] = [2, 0, 5];
 
-/// Returns a pair of two group numbers, source first.
-pub(crate) fn pair(source: u32, destination: u32) -> Pair {
-    Pair {
-        source,
-        destination,
-    }
-}
-
 /// Whether a search found these pairs in `probes` tries.
-pub(crate) fn has_found(found: &Found, pairs: &[Pair], probes: u64) -> bool {
+pub(crate) fn has_found(found: &Found, pairs: &[(u32, u32)], probes: u64) -> bool {
     found.probes == probes && found.pairs.as_slice() == pairs
 }
 
@@ -77,7 +69,7 @@ fn check(
     place: usize,
     words: &[u64],
     t: u32,
-    pairs: &[Pair],
+    pairs: &[(u32, u32)],
     probes: u64,
 ) {
     check_count(rt, views.len(), 10);
@@ -99,19 +91,19 @@ fn worked_pairs_are_found(rt: HostRuntime) {
 fn check_worked(rt: &(impl Abort + AllocGlobal), views: &[ClassView]) {
     check(rt, views, 9, &WORDS, 0, &[], 0);
     check(rt, views, 9, &WORDS, 1, &[], 2);
-    check(rt, views, 9, &WORDS, 2, &[pair(1, 2), pair(3, 0)], 4);
-    check(rt, views, 9, &[], 1, &[pair(2, 0), pair(3, 1)], 2);
+    check(rt, views, 9, &WORDS, 2, &[(1, 2), (3, 0)], 4);
+    check(rt, views, 9, &[], 1, &[(2, 0), (3, 1)], 2);
     check(rt, views, 2, &[9], 3, &[], 0);
 }
 
 #[test]
 fn an_empty_group_is_no_candidate(rt: HostRuntime) {
     let views = views_of(&rt, 2048, &[0b01, 0b01, 0b10, 0b00]);
-    check(&rt, views.as_slice(), 9, &WORDS, 2, &[pair(0, 2)], 1);
+    check(&rt, views.as_slice(), 9, &WORDS, 2, &[(0, 2)], 1);
 }
 
 #[test]
 fn the_group_with_fewer_objects_is_the_source(rt: HostRuntime) {
     let views = views_of(&rt, 1024, &[0b1000, 0b0111]);
-    check(&rt, views.as_slice(), 7, &[], 1, &[pair(0, 1)], 1);
+    check(&rt, views.as_slice(), 7, &[], 1, &[(0, 1)], 1);
 }

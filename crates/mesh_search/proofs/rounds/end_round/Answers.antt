@@ -61,13 +61,13 @@ stay : (c : goal.Else-len-before) (xs : List Candidate)
     → xs ≡ unpaired (pairs_of_round c.args.round (chosen c.args.view.now c.args.left.now.items) (chosen c.args.view.now c.args.right.now.items)) xs
 stay c xs =
     let view : View = c.args.view.now in
-    let more : c.add_pairs.new.pairs.items
-    ≡ c.args.pairs.now.items ++ pairs_of_round c.args.round (chosen view c.args.left.now.items) (chosen view c.args.right.now.items)
+    let more : c.add_pairs.new.pairs
+    ≡ c.args.pairs.now ++ pairs_of_round c.args.round (chosen view c.args.left.now.items) (chosen view c.args.right.now.items)
     = c.in_ok-add_pairs.ensures
-    ∙ ap (λ (ls : List ℕ). c.args.pairs.now.items ++ pairs_of_round c.args.round (chosen view ls) (chosen view c.as_slice-2.result.now)) c.as_slice.ensures.value
-    ∙ ap (λ (rs : List ℕ). c.args.pairs.now.items ++ pairs_of_round c.args.round (chosen view c.args.left.now.items) (chosen view rs)) c.as_slice-2.ensures.value in
-    all_stay (pairs_of_round c.args.round (chosen view c.args.left.now.items) (chosen view c.args.right.now.items)) c.args.pairs.now.items c.add_pairs.new.pairs.items xs more
-    (omega (arith, c.len-before.ensures, c.len.ensures, c.args.pairs.now.ok.0, c.add_pairs.new.pairs.ok.0, c.if-len-before.false))
+    ∙ ap (λ (ls : List ℕ). c.args.pairs.now ++ pairs_of_round c.args.round (chosen view ls) (chosen view c.as_slice-2.result.now)) c.as_slice.ensures.value
+    ∙ ap (λ (rs : List ℕ). c.args.pairs.now ++ pairs_of_round c.args.round (chosen view c.args.left.now.items) (chosen view rs)) c.as_slice-2.ensures.value in
+    all_stay (pairs_of_round c.args.round (chosen view c.args.left.now.items) (chosen view c.args.right.now.items)) c.args.pairs.now c.add_pairs.new.pairs xs more
+    (omega (arith, c.len-before.ensures, c.len.ensures, c.if-len-before.false))
 
 pub returns-else-len-before-clause-left : goal.returns-else-len-before-clause-left
 returns-else-len-before-clause-left c = stay c (chosen c.args.view.now c.args.left.now.items)

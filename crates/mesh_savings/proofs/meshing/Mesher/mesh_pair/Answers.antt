@@ -13,7 +13,7 @@ overflow_add-self-in-Ok c = let few = few (goal.at.overflow_add-self-in-Ok c).In
 
 pub returns-in-Ok-clause-value : goal.returns-in-Ok-clause-value
 returns-in-Ok-clause-value c =
-    rw (c.from.ensures, ← c.pair.view_is) (meshed_is (meshing_of c.args.self.now) _ _ _ _ c.in-Ok.ensures.meshed.table c.in-Ok.ensures.meshed.moved)
+    rw c.from.ensures (meshed_is (meshing_of c.args.self.now) _ _ _ _ c.in-Ok.ensures.meshed.table c.in-Ok.ensures.meshed.moved)
 
 pub returns-in-Ok-clause-counts : goal.returns-in-Ok-clause-counts
 returns-in-Ok-clause-counts c =
@@ -23,4 +23,4 @@ returns-in-Ok-clause-counts c =
 pub returns-in-Err-clause-value : goal.returns-in-Err-clause-value
 returns-in-Err-clause-value c =
     let h = c.in-Err.ensures.refused in
-    rw (← c.pair.view_is, h.1) (refused_is (meshing_of c.args.self.now) _ _ h.0)
+    rw h.1 (refused_is (meshing_of c.args.self.now) _ _ h.0)
