@@ -7,7 +7,7 @@ ghost use Rattle.model_heap.specs.Sound.{IsSound, IsTied};
 ghost use Rattle.model_heap.specs.Table.{empty_table};
 ghost use Rattle.mesh_mutator.specs.Attempts.{IsLook};
 ghost use Rattle.mesh_mutator.specs.Book.{AddsEntry, IsAttempt, IsLooked, memory_in, memory_of_book, table_of_book};
-ghost use Rattle.mesh_mutator.specs.Headline.{EndsInMeaning, HasBytesApart, IsHistory};
+ghost use Rattle.mesh_mutator.specs.Headline.{CouldBeAdded, EndsInMeaning, HasBytesApart, HasObjectsAtAddresses, IsHistory};
 ghost use Rattle.mesh_mutator.specs.declared.attempts.Attempt.{Attempt};
 ghost use Rattle.mesh_steps.specs.Always.{HasHeldPagesTaken, HasObjectsApart, HasPlacesApart, HasReadOnlyOfMeshes, LiesAsMeshesHaveIt};
 ghost use Rattle.mesh_steps.specs.Heap.{arena_of};
@@ -20,6 +20,7 @@ use crate::roots::Roots;
 use crate::{Attempt, Command, Reply};
 use mesh_steps::Heap;
 use model_jobs::job_laws::answered_is_step;
+use model_memory::address_laws::histories_keep_addresses;
 use model_memory::history_laws::legal_histories;
 use std::alloc::{AllocError, Global};
 use std::marker::Model;
@@ -107,6 +108,7 @@ impl Book {
     /// What holds of a book at any moment, after any calls of mutators and mesher in any order:
     ///
     /// - The journal is a legal history of the reference memory. It ends in the memory that heap and cells represent.
+    /// - Each object that the journal says was made is live at the address of its `new`, or a later entry has freed it.
     /// - Two different bytes of live objects never share a place in physical memory, and no free page holds a live
     ///   object.
     /// - The read-only virtual pages are exactly those that the running meshes have protected.
@@ -118,6 +120,7 @@ impl Book {
     pub fn headline(&self)
         ensures legal { IsHistory self.now.entries }
         ensures ends { EndsInMeaning self.now }
+        ensures addresses { HasObjectsAtAddresses self.now }
         ensures apart { HasBytesApart self.now.heap }
         ensures held { HasHeldPagesTaken self.now.heap }
         ensures read_only { HasReadOnlyOfMeshes self.now.heap }
@@ -125,6 +128,7 @@ impl Book {
         ensures tied { IsTied (memory_of_book self.now) (table_of_book self.now) }
     {
         legal_histories();
+        histories_keep_addresses();
         self.heap.always();
         self.heap.sound();
     }
@@ -174,11 +178,14 @@ impl Book {
         attempt
     }
 
-    /// Returns the answer that a `Get`, a `Peek` or an `Addr` gets now. The command isn't recorded.
+    /// Returns the answer that a `Get`, a `Peek` or an `Addr` gets now. The command isn't recorded, but the journal
+    /// would be legal with it.
     pub fn look(&self, command: &Command) -> Reply
         requires { IsLook command.now }
-        ensures { IsLooked self.now.heap self.now.cells command.now result }
+        ensures looked { IsLooked self.now.heap self.now.cells command.now result }
+        ensures entry { CouldBeAdded self.now command.now result }
     {
+        legal_histories();
         match command {
             Command::Get(cell, off, len) => get(&self.heap, &self.roots, *cell, *off, *len),
             Command::Addr(cell) => address(&self.heap, &self.roots, *cell),
