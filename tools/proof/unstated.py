@@ -4,7 +4,7 @@
     tools/proof/unstated.py [--names]
 
 Such a function has no `ensures`. It is proved safe, and to return, but a body that does something else would be proved
-too. Crates that hold only tests are left out. With --names nothing is written, and each function is printed with its
+too. Crates that hold only tests or forms are left out. With --names nothing is written, and each function is printed with its
 file. Run it from the top of the repository; what it writes is committed.
 """
 import collections
@@ -44,10 +44,10 @@ def unstated(crate):
 
 
 def crates():
-    """The crates of crates.txt that hold more than tests, in its order, which is lowest first."""
+    """The crates of crates.txt that hold more than tests and forms, in its order, which is lowest first."""
     lines = pathlib.Path("crates.txt").read_text().splitlines()
     names = (line.split(":")[0] for line in lines if line and not line.startswith("#"))
-    return [name for name in names if not name.endswith("_tests")]
+    return [name for name in names if not name.endswith(("_tests", "_forms"))]
 
 
 def table():
