@@ -112,7 +112,8 @@ impl Painter for Drawing {
     ghost next = { next_drawn };
 
     fn point(&mut self, point: &Point<'_>, text: &mut Text) -> Result<(), AllocError> {
-        self.picture.point(point.line, point.frame, text)
+        self.picture.point(point.line, point.frame, text)?;
+        Ok(())
     }
 }
 

@@ -46,34 +46,18 @@ pub fn are_alike(one: &Frame, other: &Frame) -> bool {
 }
 
 /// Whether two frames have the same number of meshes, and each mesh of `one` looks like the mesh of `other` with the
-/// same index.
+/// same index: both have the same groups, and have copied the same number of objects, or both were cancelled.
 fn have_alike_meshes(one: &Frame, other: &Frame) -> bool {
     if one.meshes.len() != other.meshes.len() {
         return false;
     }
     for (mine, its) in one.meshes.iter().zip(other.meshes.iter()) {
-        if !are_alike_meshes(one, mine, other, its) {
+        let same_groups = mine.source == its.source && mine.destination == its.destination;
+        if !same_groups || copied_objects(one, mine) != copied_objects(other, its) {
             return false;
         }
     }
     true
-}
-
-/// Whether two meshes, each in its own frame, have the same groups and the same number of copied objects, and both or
-/// neither were cancelled.
-fn are_alike_meshes(one: &Frame, mine: &RunningMesh, other: &Frame, its: &RunningMesh) -> bool {
-    mine.source == its.source
-        && mine.destination == its.destination
-        && is_unwinding(mine) == is_unwinding(its)
-        && copied_objects(one, mine) == copied_objects(other, its)
-}
-
-/// Whether a mesh was cancelled.
-fn is_unwinding(mesh: &RunningMesh) -> bool {
-    match mesh.progress {
-        Progress::Made(_) => false,
-        Progress::Unwinding(_, _) => true,
-    }
 }
 
 /// Returns the step order of a mesh. If the mesh's source has more members than a group can have, returns the order for
@@ -97,8 +81,11 @@ pub fn copied_slots(frame: &Frame, mesh: &RunningMesh) -> u32 {
     }
 }
 
-/// Returns how many objects of its source a mesh has copied. The number is 0 for a cancelled mesh.
-fn copied_objects(frame: &Frame, mesh: &RunningMesh) -> u32 {
+/// Returns how many objects of its source a mesh has copied, or `None` if the mesh was cancelled.
+fn copied_objects(frame: &Frame, mesh: &RunningMesh) -> Option<u32> {
+    if let Progress::Unwinding(_, _) = mesh.progress {
+        return None;
+    }
     let slots = copied_slots(frame, mesh);
     let mut count = 0u32;
     for member in frame.members.as_slice() {
@@ -106,15 +93,14 @@ fn copied_objects(frame: &Frame, mesh: &RunningMesh) -> u32 {
             count = count.saturating_add(objects_below(frame, member.first, slots));
         }
     }
-    count
+    Some(count)
 }
 
 /// Returns how many objects the member with the first page `first` has in the slots below `slots`.
 fn objects_below(frame: &Frame, first: u32, slots: u32) -> u32 {
+    let objects = frame.objects.iter();
     narrow(
-        frame
-            .objects
-            .iter()
+        objects
             .filter(|o| o.member == first && o.slot < slots)
             .count(),
     )

@@ -3,16 +3,16 @@ use crate::frame::{Frame, Mapping};
 use crate::layout::{LABELS, PAGE_HEIGHT};
 use crate::pages::{GROUP_COLOURS, Scene};
 use crate::parts::{group_of, lead_of};
-use mesh_svg::{Look, Text, add_path};
+use mesh_svg::{Look, Shapes, Way};
 
 /// The length of the straight part at both ends of an arrow.
 const BEND: u32 = 320;
 
 /// Draws an arrow from each virtual page to the physical page that it is mapped to.
-pub(crate) fn draw_arrows(text: &mut Text, scene: &Scene) {
+pub(crate) fn draw_arrows(shapes: &mut Shapes, scene: &Scene) {
     for lead in scene.now.leads.as_slice() {
         if let Some(left) = scene.layout.find_page(lead.virtual_page) {
-            draw_lead(text, scene, lead, middle(scene, left));
+            draw_lead(shapes, scene, lead, middle(scene, left));
         }
     }
 }
@@ -29,11 +29,11 @@ fn physical_middle(scene: &Scene, page: u32) -> u32 {
 
 /// Draws the mapping of a virtual page as an arrow that starts at `from`. If the page was mapped to another physical
 /// page in the frame before, also draws a curve to that physical page.
-fn draw_lead(text: &mut Text, scene: &Scene, lead: &Mapping, from: u32) {
+fn draw_lead(shapes: &mut Shapes, scene: &Scene, lead: &Mapping, from: u32) {
     let was = earlier_target(scene, lead);
     if let Some(page) = was {
         draw_curve(
-            text,
+            shapes,
             scene,
             Look::of("was"),
             from,
@@ -42,14 +42,14 @@ fn draw_lead(text: &mut Text, scene: &Scene, lead: &Mapping, from: u32) {
     }
     let look = lead_look(scene.now, lead, was.is_some());
     let to = physical_middle(scene, lead.physical_page);
-    draw_curve(
-        text,
-        scene,
-        look.with(line_rule(lead, was.is_some())),
-        from,
-        to,
-    );
-    draw_head(text, scene, look, to);
+    let rule = line_rule(lead, was.is_some());
+    draw_curve(shapes, scene, look.with(rule), from, to);
+    let low = scene.bottom().saturating_sub(40);
+    let high = low.saturating_sub(65);
+    shapes.point(Way::Move, to.saturating_sub(42), high);
+    shapes.point(Way::Line, to, low);
+    shapes.point(Way::Line, to.saturating_add(42), high);
+    shapes.path(look);
 }
 
 /// Returns the physical page that a virtual page was mapped to in the frame before. Returns `None` if the physical page
@@ -84,32 +84,12 @@ fn line_rule(lead: &Mapping, changed: bool) -> &'static str {
 }
 
 /// Draws a curve from below the virtual pages to the physical pages.
-fn draw_curve(text: &mut Text, scene: &Scene, look: Look, from: u32, to: u32) {
+fn draw_curve(shapes: &mut Shapes, scene: &Scene, look: Look, from: u32, to: u32) {
     let high = scene.top.saturating_add(PAGE_HEIGHT + LABELS);
     let low = scene.bottom().saturating_sub(40);
-    add_path(
-        text,
-        look,
-        &[
-            ("M", from, high),
-            ("C", from, high.saturating_add(BEND)),
-            ("", to, low.saturating_sub(BEND)),
-            ("", to, low),
-        ],
-    );
-}
-
-/// Draws the head of an arrow that ends at `to`.
-fn draw_head(text: &mut Text, scene: &Scene, look: Look, to: u32) {
-    let low = scene.bottom().saturating_sub(40);
-    let high = low.saturating_sub(65);
-    add_path(
-        text,
-        look,
-        &[
-            ("M", to.saturating_sub(42), high),
-            ("L", to, low),
-            ("L", to.saturating_add(42), high),
-        ],
-    );
+    shapes.point(Way::Move, from, high);
+    shapes.point(Way::Curve, from, high.saturating_add(BEND));
+    shapes.point(Way::Bend, to, low.saturating_sub(BEND));
+    shapes.point(Way::Bend, to, low);
+    shapes.path(look);
 }

@@ -2,7 +2,7 @@
 use crate::alike::{are_alike, copied, empty_frame, shows_nothing};
 use crate::frame::Frame;
 use crate::numbers::narrow;
-use crate::pills::{Tone, is_step, tone_of};
+use crate::pills::is_step;
 use std::alloc::{AllocError, Global};
 
 /// The greatest number of captions above one frame. If there are more, captions before the last one are left out, and
@@ -39,18 +39,6 @@ pub struct Caption {
     pub words: Vec<u8>,
     /// The answer of the last line.
     pub answer: Vec<u8>,
-    /// The kind of the answer.
-    pub tone: Tone,
-}
-
-impl Caption {
-    /// Merges a later caption of one line with the same words into this caption.
-    fn repeat(&mut self, later: Caption) {
-        self.to = later.to;
-        self.times = self.times.saturating_add(1);
-        self.answer = later.answer;
-        self.tone = later.tone;
-    }
 }
 
 /// The lines since the last frame, and the last frame.
@@ -86,10 +74,12 @@ impl Gathering {
     /// Adds a line with its answer. If the line repeats the last caption, the line is merged into that caption. The
     /// only error is an allocation failure.
     pub fn add(&mut self, line: &Line<'_>) -> Result<(), AllocError> {
-        let caption = caption_of(self.alloc, line)?;
+        let mut caption = caption_of(self.alloc, line)?;
         if let Some(last) = self.captions.last_mut() {
             if repeats(last, &caption) {
-                last.repeat(caption);
+                caption.from = last.from;
+                caption.times = last.times.saturating_add(1);
+                *last = caption;
                 return Ok(());
             }
         }
@@ -141,12 +131,9 @@ impl Gathering {
     }
 }
 
-/// Whether a caption repeats the caption before it: both have the same words, the same kind of answer and the same
-/// answer.
+/// Whether a caption repeats the caption before it: both have the same words and the same answer.
 fn repeats(earlier: &Caption, later: &Caption) -> bool {
-    earlier.words.as_slice() == later.words.as_slice()
-        && earlier.tone == later.tone
-        && has_same_answer(earlier, later)
+    earlier.words.as_slice() == later.words.as_slice() && has_same_answer(earlier, later)
 }
 
 /// Whether two captions have the same answer. If the later answer is that of a step, only the first words are compared,
@@ -173,22 +160,19 @@ fn caption_of(alloc: Global, line: &Line<'_>) -> Result<Caption, AllocError> {
         from: line.number,
         to: line.number,
         times: 1,
-        words: cut(alloc, line.words, MAX_WORDS)?,
-        answer: cut(alloc, line.answer, MAX_ANSWER)?,
-        tone: tone_of(line.answer),
+        words: cut(alloc, b"", line.words, MAX_WORDS)?,
+        answer: cut(alloc, b"", line.answer, MAX_ANSWER)?,
     })
 }
 
-/// Returns the first `most` bytes of a text, followed by two dots if the text is longer. Any byte that is not printable
-/// ASCII becomes a question mark. The only error is an allocation failure.
-pub fn cut(alloc: Global, words: &[u8], most: usize) -> Result<Vec<u8>, AllocError> {
+/// Returns the bytes `first`, and then the first `most` bytes of a text, followed by two dots if the text is longer.
+/// Any byte of the text that is not printable ASCII becomes a question mark. The only error is an allocation failure.
+pub fn cut(alloc: Global, first: &[u8], words: &[u8], most: usize) -> Result<Vec<u8>, AllocError> {
     let mut all = Vec::new(alloc);
+    all.extend_from_slice(first)?;
     for byte in words.iter().take(most) {
-        all.push(if (32..127).contains(byte) {
-            *byte
-        } else {
-            b'?'
-        })?;
+        let plain = (32..127).contains(byte);
+        all.push(if plain { *byte } else { b'?' })?;
     }
     if words.len() > most {
         all.extend_from_slice(b"..")?;

@@ -1,5 +1,5 @@
 //! The positions and sizes of all parts of a picture. Lengths are in tenths of a pixel.
-use crate::numbers::narrow;
+use crate::numbers::{narrow, sum};
 use crate::pills::{INDENT, LINE};
 use mesh_class::Class;
 
@@ -13,7 +13,7 @@ pub const HEAD: u32 = 720;
 pub const BETWEEN: u32 = 140;
 
 /// The gap between two pages of a span, and between two physical pages.
-pub const GAP: u32 = 60;
+const GAP: u32 = 60;
 
 /// The gap between two spans.
 const SPAN_GAP: u32 = 160;
@@ -21,10 +21,10 @@ const SPAN_GAP: u32 = 160;
 /// The height of a page.
 pub const PAGE_HEIGHT: u32 = 480;
 
-/// The height of the line above the pages of spans, with each span's name and class.
+/// The height of the names and classes above spans, and their height if pages are narrow, and each class is on a line
+/// of its own.
 const HEADING: u32 = 300;
 
-/// The height of the names above the pages of spans if pages are narrow, and each class is on a line of its own.
 const TALL_HEADING: u32 = 400;
 
 /// The height below a virtual page for its number and its read-only mark.
@@ -41,10 +41,9 @@ const NARROW_PAGE: u32 = 580;
 /// The preferred width of a row of cards.
 const WIDTH: u32 = 15_000;
 
-/// The least width of a card.
+/// The least width of a card with pages, and of a card that is a map of occupancy.
 const LEAST_CARD: u32 = 6_400;
 
-/// The width of a card that is a map of occupancy.
 const MAP_CARD: u32 = 7_400;
 
 /// The greatest number of pages that are drawn one by one.
@@ -61,7 +60,7 @@ pub const BAR: u32 = 180;
 
 /// A span that is drawn in some frame.
 #[derive(Clone, Copy)]
-pub struct Shown {
+pub struct Span {
     /// The span's first virtual page.
     pub first: u32,
     /// The span's class.
@@ -70,14 +69,11 @@ pub struct Shown {
     pub x: u32,
 }
 
-/// The parts of a frame that need room.
+/// The numbers of lines above a frame, of its running meshes and of its groups, which need room.
 #[derive(Clone, Copy)]
 pub struct Extent {
-    /// The number of lines above the frame.
     pub lines: u32,
-    /// The number of running meshes.
     pub meshes: u32,
-    /// The number of groups.
     pub groups: u32,
 }
 
@@ -85,7 +81,7 @@ pub struct Extent {
 #[derive(Drop)]
 pub struct Layout {
     /// The spans, ascending by first page.
-    pub spans: Vec<Shown>,
+    pub spans: Vec<Span>,
     /// The number of physical pages that are shown.
     pub physical: u32,
     /// Whether pages are drawn one by one. If not, a map of occupancy is drawn.
@@ -102,7 +98,7 @@ impl Layout {
     /// Returns the layout of `frames` frames with these spans and `physical` physical pages, in cards at least `widest`
     /// wide. `columns` is the number of cards in a row. If it is `None`, a row has the number of cards that fits.
     pub fn new(
-        spans: Vec<Shown>,
+        mut spans: Vec<Span>,
         physical: u32,
         widest: u32,
         frames: u32,
@@ -110,49 +106,47 @@ impl Layout {
     ) -> Layout {
         let pages = pages_of(spans.as_slice());
         let by_pages = pages <= MAX_PAGES && physical <= MAX_PAGES;
-        let page = page_width(spans.as_slice(), pages.max(physical));
-        let mut spans = spans;
+        let page = page_width(narrow(spans.len()), pages.max(physical));
         let end = place(&mut spans, page);
-        let least = if by_pages { LEAST_CARD } else { MAP_CARD };
-        let below = INDENT.saturating_add(physical.saturating_mul(page.saturating_add(GAP)));
-        let drawn = if by_pages { end.max(below) } else { 0 };
+        let below = INDENT.saturating_add(pages_width(physical, page));
+        let (drawn, least) = if by_pages {
+            (end.max(below), LEAST_CARD)
+        } else {
+            (0, MAP_CARD)
+        };
         let card = drawn.saturating_add(100).max(widest).max(least);
         let fitting = (WIDTH + BETWEEN) / card.saturating_add(BETWEEN).max(1);
-        let columns = columns.unwrap_or(fitting).min(frames).max(1);
         Layout {
             spans,
             physical,
             by_pages,
             page,
             card,
-            columns,
+            columns: columns.unwrap_or(fitting).min(frames).max(1),
         }
     }
 
     /// Returns the width of a row of cards.
     pub fn width(&self) -> u32 {
-        self.columns
-            .saturating_mul(self.card.saturating_add(BETWEEN))
-            .saturating_sub(BETWEEN)
+        let cards = self
+            .columns
+            .saturating_mul(self.card.saturating_add(BETWEEN));
+        cards.saturating_sub(BETWEEN)
     }
 
     /// Returns the left side of a physical page, from the card's left side.
     pub fn physical_left(&self, page: u32) -> u32 {
-        INDENT.saturating_add(page.saturating_mul(self.page.saturating_add(GAP)))
+        INDENT.saturating_add(pages_width(page, self.page))
     }
 
     /// Returns the left side of the page at `place` in a span, from the card's left side.
-    pub fn virtual_left(&self, span: &Shown, place: u32) -> u32 {
-        span.x
-            .saturating_add(place.saturating_mul(self.page.saturating_add(GAP)))
+    pub fn virtual_left(&self, span: &Span, place: u32) -> u32 {
+        span.x.saturating_add(pages_width(place, self.page))
     }
 
     /// Returns the width of a span of a class.
     pub fn span_width(&self, class: Class) -> u32 {
-        class
-            .pages()
-            .saturating_mul(self.page.saturating_add(GAP))
-            .saturating_sub(GAP)
+        pages_width(class.pages(), self.page).saturating_sub(GAP)
     }
 
     /// Returns the left side of a virtual page, from the card's left side. Returns `None` if the page's span is not
@@ -170,9 +164,11 @@ impl Layout {
         self.page < 1_100
     }
 
-    /// Returns the height of the names above spans.
+    /// Returns the height between the bars of meshes and a heap.
     pub fn heading(&self) -> u32 {
-        if self.is_narrow() {
+        if !self.by_pages {
+            60
+        } else if self.is_narrow() {
             TALL_HEADING
         } else {
             HEADING
@@ -182,34 +178,30 @@ impl Layout {
     /// Returns the height of a card for a frame with these parts.
     pub fn height(&self, extent: &Extent) -> u32 {
         let drawn = if self.by_pages {
-            self.heading()
-                .saturating_add(2 * PAGE_HEIGHT + LABELS + LANE + 220)
+            2 * PAGE_HEIGHT + LABELS + LANE + 220
         } else {
-            map_height(extent.groups)
+            extent
+                .groups
+                .min(MAX_ROWS + 1)
+                .saturating_mul(ROW)
+                .saturating_add(120)
         };
-        above(extent).saturating_add(drawn)
+        sum(above(extent.lines, extent.meshes), self.heading(), drawn)
     }
 }
 
 /// Returns the height of the captions and the bars of meshes together.
-pub fn above(extent: &Extent) -> u32 {
-    extent
-        .lines
-        .saturating_mul(LINE)
-        .saturating_add(extent.meshes.saturating_mul(BAR))
-        .saturating_add(120)
+pub fn above(lines: u32, meshes: u32) -> u32 {
+    sum(lines.saturating_mul(LINE), meshes.saturating_mul(BAR), 120)
 }
 
-/// Returns the height of a map of `groups` groups.
-fn map_height(groups: u32) -> u32 {
-    groups
-        .min(MAX_ROWS + 1)
-        .saturating_mul(ROW)
-        .saturating_add(180)
+/// Returns the width of pages with the width `page`, and of a gap after each.
+fn pages_width(pages: u32, page: u32) -> u32 {
+    pages.saturating_mul(page.saturating_add(GAP))
 }
 
 /// Returns how many pages the spans have together.
-pub fn pages_of(spans: &[Shown]) -> u32 {
+pub fn pages_of(spans: &[Span]) -> u32 {
     let mut pages = 0u32;
     for span in spans {
         pages = pages.saturating_add(span.class.pages());
@@ -217,20 +209,19 @@ pub fn pages_of(spans: &[Shown]) -> u32 {
     pages
 }
 
-/// Returns the width of a page if `pages` pages of these spans are side by side.
-fn page_width(spans: &[Shown], pages: u32) -> u32 {
-    let gaps = narrow(spans.len()).saturating_mul(SPAN_GAP - GAP);
+/// Returns the width of a page if `pages` pages of `spans` spans are side by side.
+fn page_width(spans: u32, pages: u32) -> u32 {
+    let gaps = spans.saturating_mul(SPAN_GAP - GAP);
     let room = (WIDTH - INDENT).saturating_sub(gaps) / pages.max(1);
     room.saturating_sub(GAP).clamp(NARROW_PAGE, WIDE_PAGE)
 }
 
 /// Places spans side by side, and returns the right side of the last one.
-fn place(spans: &mut Vec<Shown>, page: u32) -> u32 {
+fn place(spans: &mut Vec<Span>, page: u32) -> u32 {
     let mut x = INDENT;
     for span in spans.iter_mut() {
         span.x = x;
-        let pages = span.class.pages().saturating_mul(page.saturating_add(GAP));
-        x = x.saturating_add(pages).saturating_add(SPAN_GAP - GAP);
+        x = sum(x, pages_width(span.class.pages(), page), SPAN_GAP - GAP);
     }
     x.saturating_sub(SPAN_GAP)
 }

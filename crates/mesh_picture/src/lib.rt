@@ -7,7 +7,7 @@
 //! a `Measure`, and the second time to the `Picture` that is made from the measure. The picture appends its text to a
 //! buffer.
 //!
-//! These modules measure a card: `parts`, `rows`, `layout`, `lettering` and `pills`. These modules draw it: `pages`,
+//! These modules measure a card: `parts`, `layout`, `lettering` and `pills`. These modules draw it: `pages`,
 //! `objects`, `occupancy`, `mesh_bar`, `arrows` and `legend`.
 #![tactic(auto)]
 
@@ -27,7 +27,6 @@ mod pages;
 mod parts;
 mod picture;
 mod pills;
-mod rows;
 mod style;
 
 pub use frame::{Counts, Frame, Home, Mapping, Member, Object, RunningMesh};

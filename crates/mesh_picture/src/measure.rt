@@ -3,7 +3,7 @@ ghost use Rattle.std.specs.Prelude.{◌≡◌, ◌+◌, OnOk};
 
 use crate::frame::Frame;
 use crate::gathering::{Gathering, Line};
-use crate::layout::{Extent, Layout, MAX_PAGES, Shown, pages_of};
+use crate::layout::{Extent, Layout, MAX_PAGES, Span, pages_of};
 use crate::numbers::narrow;
 use crate::parts::groups_of;
 use crate::pills::caption_width;
@@ -14,7 +14,7 @@ use std::marker::Model;
 #[derive(Drop)]
 pub struct Measure {
     gathering: Gathering,
-    spans: Vec<Shown>,
+    spans: Vec<Span>,
     physical: u32,
     widest: u32,
     extents: Vec<Extent>,
@@ -102,13 +102,8 @@ impl Measure {
             self.widest = self.widest.max(widest_of(&self.gathering)?);
         }
         self.spans.sort_unstable_by_key(|s| s.first);
-        let layout = Layout::new(
-            self.spans,
-            self.physical,
-            self.widest,
-            narrow(self.extents.len()),
-            columns,
-        );
+        let cards = narrow(self.extents.len());
+        let layout = Layout::new(self.spans, self.physical, self.widest, cards, columns);
         let rows = row_heights(&layout, self.extents.as_slice(), *self.extents.allocator())?;
         Ok(Measured {
             layout,
@@ -154,11 +149,11 @@ fn physical_of(frame: &Frame) -> u32 {
 
 /// Adds the spans of a frame that `spans` doesn't contain yet. If `spans` has more than `MAX_PAGES` pages, adds no
 /// span, because the picture is a map of occupancy in that case. The only error is an allocation failure.
-fn add_spans(spans: &mut Vec<Shown>, frame: &Frame) -> Result<(), AllocError> {
+fn add_spans(spans: &mut Vec<Span>, frame: &Frame) -> Result<(), AllocError> {
     for member in frame.members.as_slice() {
         let known = spans.iter().any(|s| s.first == member.first);
         if !known && pages_of(spans.as_slice()) <= MAX_PAGES {
-            spans.push(Shown {
+            spans.push(Span {
                 first: member.first,
                 class: member.class,
                 x: 0,

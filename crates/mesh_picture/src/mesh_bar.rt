@@ -8,7 +8,7 @@ use crate::lettering::{Face, Label};
 use crate::numbers::share;
 use crate::pills::INDENT;
 use mesh_running::{KINDS, Progress, StepOrder, kind_name};
-use mesh_svg::{Area, Look, Text, add_rect};
+use mesh_svg::{Area, Look, Shapes};
 use model_words::StepKind;
 
 /// The room for a mesh's name.
@@ -21,57 +21,43 @@ const LEAST: u32 = 820;
 const MOST_MORE: u32 = 3_200;
 
 /// Draws a bar for each running mesh of a frame into a card of width `card`.
-pub(crate) fn draw_meshes(text: &mut Text, frame: &Frame, x: u32, y: u32, card: u32) {
+pub(crate) fn draw_meshes(shapes: &mut Shapes, frame: &Frame, x: u32, y: u32, card: u32) {
+    let room = card.saturating_sub(INDENT + NAME + 120);
+    let left = x.saturating_add(INDENT);
     let mut top = y;
     for mesh in frame.meshes.as_slice() {
-        draw_mesh(text, frame, mesh, x.saturating_add(INDENT), top, card);
+        draw_mesh(shapes, frame, mesh, left, top, room);
         top = top.saturating_add(BAR);
     }
 }
 
-/// Draws the progress of a mesh.
-fn draw_mesh(text: &mut Text, frame: &Frame, mesh: &RunningMesh, x: u32, y: u32, card: u32) {
-    draw_mesh_name(text, mesh, x, y);
+/// Draws the numbers of a mesh's two groups, and the progress of the mesh.
+fn draw_mesh(shapes: &mut Shapes, frame: &Frame, mesh: &RunningMesh, x: u32, y: u32, room: u32) {
+    let line = y.saturating_add(112);
+    let name = Label::start(Face::Name, "blue", x, line).within(NAME - 60);
+    name.say(shapes, "mesh # → #", &[mesh.source, mesh.destination]);
     let left = x.saturating_add(NAME);
     match mesh.progress {
-        Progress::Made(made) => {
-            let room = card.saturating_sub(INDENT + NAME + 120);
-            draw_bar(text, order_of(frame, mesh), made, left, y, room)
-        }
+        Progress::Made(made) => draw_bar(shapes, order_of(frame, mesh), made, left, y, room),
         Progress::Unwinding(all, undone) => {
-            draw_unwinding(text, all.saturating_sub(undone), left, y)
+            let pages = all.saturating_sub(undone);
+            let label = Label::start(Face::Name, "red", left, line);
+            label.say(shapes, unwinding_words(pages), &[pages])
         }
     }
 }
 
-/// Draws the name of a mesh: the numbers of its two groups.
-fn draw_mesh_name(text: &mut Text, mesh: &RunningMesh, x: u32, y: u32) {
-    let mut words = text.empty();
-    words.add(b"mesh ");
-    words.add_number(mesh.source);
-    words.add(" → ".as_bytes());
-    words.add_number(mesh.destination);
-    Label::start(Face::Name, "blue", x, y.saturating_add(112))
-        .within(NAME - 60)
-        .add_text(text, &words);
-}
-
-/// Draws the number of pages that a cancelled mesh must still unprotect.
-fn draw_unwinding(text: &mut Text, left: u32, x: u32, y: u32) {
-    let mut words = text.empty();
-    words.add(b"cancelled: ");
-    words.add_number(left);
-    words.add(if left == 1 {
-        b" page to unprotect".as_slice()
-    } else {
-        b" pages to unprotect".as_slice()
-    });
-    Label::start(Face::Name, "red", x, y.saturating_add(112)).add_text(text, &words);
+/// Returns the words for a cancelled mesh that must still unprotect this number of pages.
+fn unwinding_words(pages: u32) -> &'static str {
+    match pages {
+        1 => "cancelled: # page to unprotect",
+        _ => "cancelled: # pages to unprotect",
+    }
 }
 
 /// Draws a bar with one part for each kind of step of a mesh. The mesh has the step order `order`, and has made `made`
 /// steps.
-fn draw_bar(text: &mut Text, order: StepOrder, made: u32, x: u32, y: u32, room: u32)
+fn draw_bar(shapes: &mut Shapes, order: StepOrder, made: u32, x: u32, y: u32, room: u32)
     requires { IsStepOrder order }
 {
     let more = room.saturating_sub(5 * LEAST).min(MOST_MORE);
@@ -81,42 +67,23 @@ fn draw_bar(text: &mut Text, order: StepOrder, made: u32, x: u32, y: u32, room: 
     for kind in KINDS {
         let count = order.steps_of(kind);
         let width = LEAST.saturating_add(share(more, count, all));
-        let area = Area {
-            x: left,
-            y: y.saturating_add(10),
-            w: width.saturating_sub(30),
-            h: 145,
-        };
-        draw_kind(text, kind, count, open.min(count), area);
+        let area = Area::at(left, y.saturating_add(10), width.saturating_sub(30), 145);
+        draw_kind(shapes, kind, count, open.min(count), area);
         open = open.saturating_sub(count);
         left = left.saturating_add(width);
     }
 }
 
 /// Draws the part of a bar for one kind of step. The mesh has `count` steps of this kind, and has made `made` of them.
-fn draw_kind(text: &mut Text, kind: StepKind, count: u32, made: u32, area: Area) {
-    add_rect(text, Look::of("ahead"), area, 30);
+fn draw_kind(shapes: &mut Shapes, kind: StepKind, count: u32, made: u32, area: Area) {
+    shapes.rect(Look::of("ahead"), area, 30);
     if made > 0 {
-        let done = Area {
-            x: area.x,
-            y: area.y,
-            w: share(area.w, made, count),
-            h: area.h,
-        };
-        add_rect(text, Look::of("made"), done, 30);
+        let w = share(area.w, made, count);
+        shapes.rect(Look::of("made"), Area { w, ..area }, 30);
     }
-    let mut words = text.empty();
-    words.add(kind_name(kind).as_bytes());
-    words.add(b" ");
-    words.add_number(made);
-    words.add(b"/");
-    words.add_number(count);
-    Label::middle(
-        Face::Small,
-        "ink",
-        area.middle(),
-        area.y.saturating_add(105),
-    )
-    .within(area.w.saturating_sub(30))
-    .add_text(text, &words);
+    let words = shapes.spell(kind_name(kind).as_bytes(), " #/#", &[made, count]);
+    let line = area.y.saturating_add(105);
+    Label::middle(Face::Small, "ink", area.middle(), line)
+        .within(area.w.saturating_sub(30))
+        .draw(shapes, words);
 }

@@ -9,3 +9,8 @@ pub fn share(length: u32, part: u32, whole: u32) -> u32 {
 pub fn narrow(count: usize) -> u32 {
     u32::try_from(count).unwrap_or(u32::MAX)
 }
+
+/// Returns the sum of three numbers. It saturates.
+pub fn sum(one: u32, other: u32, third: u32) -> u32 {
+    one.saturating_add(other).saturating_add(third)
+}

@@ -1,12 +1,9 @@
 //! Drawing the slots and the objects of a page.
 use crate::lettering::{Face, Label, width_of};
-use crate::numbers::share;
-use crate::parts::{Part, State};
+use crate::numbers::{share, sum};
+use crate::parts::{PAGE_BYTES, Part, State};
 use mesh_class::Class;
-use mesh_svg::{Area, Look, Text, add_point, add_rect, begin_path, end_path};
-
-/// The number of bytes in a page.
-const PAGE_BYTES: u32 = 4_096;
+use mesh_svg::{Area, Look, Shapes, Way};
 
 /// The greatest number of slots that are side by side in a page. If a page has more slots, they are in several rows.
 const SLOTS_IN_ROW: u32 = 16;
@@ -26,103 +23,69 @@ fn bytes_area(size: u32, from: u32, to: u32, area: Area) -> Area {
     let above = from.checked_div(row).unwrap_or(0);
     let left = share(area.w, from.checked_rem(row).unwrap_or(0), row);
     let height = share(area.h, row, PAGE_BYTES);
-    Area {
-        x: area.x.saturating_add(left),
-        y: area.y.saturating_add(above.saturating_mul(height)),
-        w: share(area.w, to.saturating_sub(from), row),
-        h: height,
-    }
+    let y = area.y.saturating_add(above.saturating_mul(height));
+    let width = share(area.w, to.saturating_sub(from), row);
+    Area::at(area.x.saturating_add(left), y, width, height)
 }
 
 /// Draws the bounds of the slots in one page of a span. `place` is the page's index in the span.
-pub(crate) fn draw_grid(text: &mut Text, class: Class, place: u32, area: Area) {
-    begin_path(text, Look::of("grid"));
-    draw_row_bounds(text, class, area);
-    draw_slot_bounds(text, class, place, area);
-    end_path(text);
+pub(crate) fn draw_grid(shapes: &mut Shapes, class: Class, place: u32, area: Area) {
+    draw_row_bounds(shapes, class, area);
+    draw_slot_bounds(shapes, class, place, area);
+    shapes.path(Look::of("grid"));
 }
 
-/// Draws the bounds of the rows of slots.
-fn draw_row_bounds(text: &mut Text, class: Class, area: Area) {
+/// Adds the bounds of the rows of slots to a path.
+fn draw_row_bounds(shapes: &mut Shapes, class: Class, area: Area) {
     let rows = PAGE_BYTES.checked_div(row_bytes(class.size())).unwrap_or(1);
+    let right = area.x.saturating_add(area.w);
     for row in 1..rows {
         let y = area.y.saturating_add(share(area.h, row, rows));
-        add_point(text, "M", area.x, y);
-        add_point(text, "L", area.x.saturating_add(area.w), y);
+        shapes.point(Way::Move, area.x, y);
+        shapes.point(Way::Line, right, y);
     }
 }
 
-/// Draws the bounds of the slots of a row.
-fn draw_slot_bounds(text: &mut Text, class: Class, place: u32, area: Area) {
+/// Adds the bounds of the slots of a row to a path.
+fn draw_slot_bounds(shapes: &mut Shapes, class: Class, place: u32, area: Area) {
     let low = place.saturating_mul(PAGE_BYTES);
+    let row = row_bytes(class.size());
     for slot in 1..class.slots() {
         let from = slot.saturating_mul(class.size()).saturating_sub(low);
-        if from > 0 && from < row_bytes(class.size()) {
-            let left = share(area.w, from, row_bytes(class.size()));
-            add_point(text, "M", area.x.saturating_add(left), area.y);
-            add_point(text, "L", area.x.saturating_add(left), area.bottom());
+        if from > 0 && from < row {
+            let x = area.x.saturating_add(share(area.w, from, row));
+            shapes.point(Way::Move, x, area.y);
+            shapes.point(Way::Line, x, area.bottom());
         }
     }
 }
 
-/// Draws the parts of objects in a page.
-pub(crate) fn draw_parts(text: &mut Text, parts: &[Part], area: Area) {
-    for part in parts {
-        draw_part(text, part, area);
-    }
-}
-
 /// Draws the part of an object in a page: its slot, the filled part of the slot, and its serial.
-fn draw_part(text: &mut Text, part: &Part, area: Area) {
-    let colour = Look::nth("o", part.serial % OBJECT_COLOURS);
+pub(crate) fn draw_part(shapes: &mut Shapes, part: &Part, area: Area) {
+    let colour = part.serial % OBJECT_COLOURS;
+    let look = Look::nth("o", colour);
+    let (rest, filled, ink) = match part.state {
+        State::Live => ("rest", "", Look::nth("u", colour)),
+        State::Copied => ("restc", "copy", Look::of("ink")),
+        State::Old => ("resto", "old", Look::of("soft")),
+    };
     let slot = bytes_area(part.size, part.from, part.to, area);
-    add_rect(text, colour.with(rest_rule(part.state)), slot.inset(6), 0);
+    shapes.rect(look.with(rest), slot.inset(6), 0);
     if part.filled > part.from {
-        let filled = bytes_area(part.size, part.from, part.filled, area);
-        add_rect(
-            text,
-            colour.with(filled_rule(part.state)),
-            filled.inset(6),
-            0,
-        );
+        let area = bytes_area(part.size, part.from, part.filled, area);
+        shapes.rect(look.with(filled), area.inset(6), 0);
     }
-    draw_serial(text, part, slot);
-}
-
-/// Returns the style rule for the unfilled part of a slot.
-fn rest_rule(state: State) -> &'static str {
-    match state {
-        State::Live => "rest",
-        State::Copied => "restc",
-        State::Old => "resto",
-    }
-}
-
-/// Returns the style rule for an object's bytes.
-fn filled_rule(state: State) -> &'static str {
-    match state {
-        State::Live => "",
-        State::Copied => "copy",
-        State::Old => "old",
-    }
+    draw_serial(shapes, part.serial, ink, slot);
 }
 
 /// Draws an object's serial, if there is room for it.
-fn draw_serial(text: &mut Text, part: &Part, slot: Area) {
-    let mut digits = text.empty();
-    digits.add_number(part.serial);
-    let Some(face) = serial_face(digits.bytes(), slot) else {
-        return;
-    };
-    let ink = match part.state {
-        State::Live => Look::nth("u", part.serial % OBJECT_COLOURS),
-        State::Copied => Look::of("ink"),
-        State::Old => Look::of("soft"),
-    };
-    let line = slot.y.saturating_add(slot.h / 2).saturating_add(36);
-    Label::middle(face, "", slot.middle(), line)
-        .inked(ink)
-        .add_text(text, &digits);
+fn draw_serial(shapes: &mut Shapes, serial: u32, ink: Look, slot: Area) {
+    let digits = shapes.spell(b"", "#", &[serial]);
+    if let Some(face) = serial_face(digits.as_slice(), slot) {
+        let line = sum(slot.y, slot.h / 2, 36);
+        let label = Label::middle(face, "", slot.middle(), line).inked(ink);
+        label.draw(shapes, digits);
+    }
 }
 
 /// Returns the lettering in which a serial fits into a slot, or `None` if no lettering fits.

@@ -1,10 +1,11 @@
 //! Drawing the virtual and the physical pages of a frame.
 use crate::frame::{Frame, Member};
-use crate::layout::{LABELS, LANE, Layout, PAGE_HEIGHT, Shown};
+use crate::layout::{LABELS, LANE, Layout, PAGE_HEIGHT, Span};
 use crate::lettering::{Face, Label};
-use crate::objects::{draw_grid, draw_parts};
-use crate::parts::{Contents, held_by, held_otherwise, lead_of, member_parts};
-use mesh_svg::{Area, Look, Text, add_path, add_rect};
+use crate::numbers::sum;
+use crate::objects::{draw_grid, draw_part};
+use crate::parts::{Contents, State, are_same, held_by, lead_of, part_of};
+use mesh_svg::{Area, Look, Shapes, Way};
 use std::alloc::AllocError;
 
 /// The number of colours of groups.
@@ -36,209 +37,170 @@ impl Scene<'_> {
         self.x.saturating_add(x)
     }
 
-    /// Returns the area of a page. `x` is the page's left side, from the card's left side, and `y` is the page's upper
-    /// side.
+    /// Returns the area of a page with the upper side `y`. `x` is its left side, from the card's left side.
     fn page(&self, x: u32, y: u32) -> Area {
-        Area {
-            x: self.across(x),
-            y,
-            w: self.layout.page,
-            h: PAGE_HEIGHT,
-        }
+        Area::at(self.across(x), y, self.layout.page, PAGE_HEIGHT)
+    }
+
+    /// Returns the area of the virtual page at the index `place` of a span.
+    fn virtual_page(&self, span: &Span, place: u32) -> Area {
+        self.page(self.layout.virtual_left(span, place), self.top)
     }
 }
 
-/// Draws the names of the two rows of pages.
-pub(crate) fn draw_row_names(text: &mut Text, scene: &Scene) {
-    draw_row_name(text, scene, b"virtual", scene.top);
-    draw_row_name(text, scene, b"physical", scene.bottom());
+/// Draws the virtual pages, span by span, and the physical pages below them.
+pub(crate) fn draw_pages(shapes: &mut Shapes, scene: &Scene) -> Result<(), AllocError> {
+    draw_row_name(shapes, scene, "virtual", scene.top);
+    draw_row_name(shapes, scene, "physical", scene.bottom());
+    for span in scene.layout.spans.as_slice() {
+        draw_span(shapes, scene, span);
+    }
+    for page in 0..scene.layout.physical {
+        draw_physical_page(shapes, scene, page)?;
+    }
+    Ok(())
 }
 
 /// Draws the name of a row of pages.
-fn draw_row_name(text: &mut Text, scene: &Scene, name: &[u8], y: u32) {
+fn draw_row_name(shapes: &mut Shapes, scene: &Scene, name: &str, y: u32) {
     let x = scene.across(110);
-    Label::start(Face::Label, "soft", x, y.saturating_add(225)).add(text, name);
-    Label::start(Face::Label, "soft", x, y.saturating_add(355)).add(text, b"pages");
+    Label::start(Face::Label, "soft", x, y.saturating_add(225)).say(shapes, name, &[]);
+    Label::start(Face::Label, "soft", x, y.saturating_add(355)).say(shapes, "pages", &[]);
 }
 
-/// Draws the virtual pages, span by span.
-pub(crate) fn draw_virtual(text: &mut Text, scene: &Scene) -> Result<(), AllocError> {
-    for span in scene.layout.spans.as_slice() {
-        draw_span(text, scene, span)?;
-    }
-    Ok(())
-}
-
-/// Draws a span, or an empty place if the frame doesn't have the span.
-fn draw_span(text: &mut Text, scene: &Scene, span: &Shown) -> Result<(), AllocError> {
+/// Draws the pages of a span, or empty places if the frame doesn't have the span.
+fn draw_span(shapes: &mut Shapes, scene: &Scene, span: &Span) {
     match scene.now.members.iter().find(|m| m.first == span.first) {
         None => {
-            draw_absent(text, scene, span);
-            Ok(())
+            for place in 0..span.class.pages() {
+                shapes.rect(Look::of("no"), scene.virtual_page(span, place), 30);
+            }
         }
         Some(member) => {
-            draw_heading(text, scene, span, member);
-            draw_member(text, scene, span, member)
+            draw_heading(shapes, scene, span, member);
+            for place in 0..member.class.pages() {
+                draw_virtual_page(
+                    shapes,
+                    scene,
+                    member,
+                    place,
+                    scene.virtual_page(span, place),
+                );
+            }
         }
     }
-}
-
-/// Draws the empty place of a span.
-fn draw_absent(text: &mut Text, scene: &Scene, span: &Shown) {
-    for place in 0..span.class.pages() {
-        let area = scene.page(scene.layout.virtual_left(span, place), scene.top);
-        add_rect(text, Look::of("no"), area, 30);
-    }
-}
-
-/// Draws the pages of a member.
-fn draw_member(
-    text: &mut Text,
-    scene: &Scene,
-    span: &Shown,
-    member: &Member,
-) -> Result<(), AllocError> {
-    for place in 0..member.class.pages() {
-        let area = scene.page(scene.layout.virtual_left(span, place), scene.top);
-        draw_virtual_page(text, scene, member, place, area)?;
-    }
-    Ok(())
 }
 
 /// Draws a bracket above a member's pages, with the member's group and class.
-fn draw_heading(text: &mut Text, scene: &Scene, span: &Shown, member: &Member) {
+fn draw_heading(shapes: &mut Shapes, scene: &Scene, span: &Span, member: &Member) {
     let left = scene.across(span.x);
     let width = scene.layout.span_width(member.class);
     let right = left.saturating_add(width);
     let colour = member.group % GROUP_COLOURS;
-    draw_bracket(text, colour, left, right, scene.top);
-    let narrow = scene.layout.is_narrow() && member.class.pages() == 1;
-    let line = scene.top.saturating_sub(if narrow { 260 } else { 160 });
-    let swatch = Area {
-        x: left,
-        y: line.saturating_sub(78),
-        w: 80,
-        h: 80,
+    draw_bracket(shapes, Look::nth("a", colour), left, right, scene.top);
+    let above = scene.top.saturating_sub(160);
+    let (line, less) = if scene.layout.is_narrow() && member.class.pages() == 1 {
+        (scene.top.saturating_sub(260), 120)
+    } else {
+        (above, 500)
     };
-    add_rect(text, Look::nth("k", colour), swatch, 20);
-    Label::start(Face::Name, "", left.saturating_add(115), line)
-        .inked(Look::nth("k", colour))
-        .within(width.saturating_sub(if narrow { 120 } else { 500 }))
-        .add_numbered(text, "group ", member.group);
-    draw_class(text, member, right, scene.top.saturating_sub(160));
+    let ink = Look::nth("k", colour);
+    shapes.rect(ink, Area::at(left, line.saturating_sub(78), 80, 80), 20);
+    let name = Label::start(Face::Name, "", left.saturating_add(115), line).inked(ink);
+    name.within(width.saturating_sub(less))
+        .say(shapes, "group #", &[member.group]);
+    let class = Label::end(Face::Small, "soft", right, above);
+    class.say(shapes, "# B", &[member.class.size()]);
 }
 
 /// Draws the bracket above a member's pages.
-fn draw_bracket(text: &mut Text, colour: u32, left: u32, right: u32, top: u32) {
+fn draw_bracket(shapes: &mut Shapes, look: Look, left: u32, right: u32, top: u32) {
     let (low, high) = (top.saturating_sub(60), top.saturating_sub(100));
-    add_path(
-        text,
-        Look::nth("a", colour),
-        &[
-            ("M", left, low),
-            ("L", left, high),
-            ("L", right, high),
-            ("L", right, low),
-        ],
-    );
+    shapes.point(Way::Move, left, low);
+    shapes.point(Way::Line, left, high);
+    shapes.point(Way::Line, right, high);
+    shapes.point(Way::Line, right, low);
+    shapes.path(look);
 }
 
-/// Draws a member's class as words that end at `right`.
-fn draw_class(text: &mut Text, member: &Member, right: u32, line: u32) {
-    let mut words = text.empty();
-    words.add_number(member.class.size());
-    words.add(b" B");
-    Label::end(Face::Small, "soft", right, line).add_text(text, &words);
-}
-
-/// Draws a virtual page.
-fn draw_virtual_page(
-    text: &mut Text,
-    scene: &Scene,
-    member: &Member,
-    place: u32,
-    area: Area,
-) -> Result<(), AllocError> {
+/// Draws a virtual page, with marks if it is read-only and if its protection has changed.
+fn draw_virtual_page(shapes: &mut Shapes, scene: &Scene, member: &Member, place: u32, area: Area) {
     let page = member.first.saturating_add(place);
-    let read_only = is_read_only(scene.now, page);
-    let look = Look::of(if read_only { "ro" } else { "pg" });
-    add_rect(text, look, area, 30);
-    draw_grid(text, member.class, place, area);
-    let parts = member_parts(text.alloc(), scene.now, member, place)?;
-    draw_parts(text, parts.as_slice(), area);
-    draw_page_number(text, page, area);
+    let read_only = is_read_only(scene.now, page).unwrap_or(false);
+    shapes.rect(Look::of(if read_only { "ro" } else { "pg" }), area, 30);
+    draw_grid(shapes, member.class, place, area);
+    draw_objects(shapes, scene.now, member, place, area);
+    draw_page_number(shapes, page, area);
     if read_only {
-        draw_read_only(text, area);
+        below(Face::Mark, "amber", area, 230).say(shapes, "read-only", &[]);
     }
-    if has_other_protection(scene, page, read_only) {
-        draw_change(text, area);
-    }
-    Ok(())
-}
-
-/// Whether a page is mapped and read-only.
-fn is_read_only(frame: &Frame, page: u32) -> bool {
-    match lead_of(frame, page) {
-        Some(lead) => lead.read_only,
-        None => false,
+    if was_read_only(scene, page) == Some(!read_only) {
+        draw_change(shapes, area);
     }
 }
 
-/// Whether a page was mapped with another protection in the frame before. False if the page wasn't mapped in that
-/// frame, or if there is no frame before.
-fn has_other_protection(scene: &Scene, page: u32, read_only: bool) -> bool {
-    match scene.before {
-        Some(before) => match lead_of(before, page) {
-            Some(lead) => lead.read_only != read_only,
-            None => false,
-        },
-        None => false,
+/// Draws the parts of a member's objects that are in the page at the index `place` of the member's span.
+fn draw_objects(shapes: &mut Shapes, frame: &Frame, member: &Member, place: u32, area: Area) {
+    for object in frame.objects.as_slice() {
+        if object.member == member.first {
+            if let Some(part) = part_of(object, member.class, place, State::Live) {
+                draw_part(shapes, &part, area);
+            }
+        }
     }
+}
+
+/// Whether a page is read-only, or `None` if it isn't mapped.
+fn is_read_only(frame: &Frame, page: u32) -> Option<bool> {
+    Some(lead_of(frame, page)?.read_only)
+}
+
+/// Whether a page was read-only in the frame before, or `None` if it wasn't mapped or if there is no frame before.
+fn was_read_only(scene: &Scene, page: u32) -> Option<bool> {
+    is_read_only(scene.before?, page)
+}
+
+/// Returns the label of words below a page, whose baseline is `down` below the page.
+fn below(face: Face, ink: &'static str, area: Area, down: u32) -> Label {
+    let line = area.bottom().saturating_add(down);
+    Label::start(face, ink, area.x.saturating_add(20), line).within(area.w.saturating_sub(40))
 }
 
 /// Draws a page's number below it.
-fn draw_page_number(text: &mut Text, page: u32, area: Area) {
-    let line = area.bottom().saturating_add(125);
-    Label::start(Face::Small, "soft", area.x.saturating_add(20), line)
-        .within(area.w.saturating_sub(40))
-        .add_numbered(text, "page ", page);
-}
-
-/// Draws the read-only mark of a page, below its number.
-fn draw_read_only(text: &mut Text, area: Area) {
-    let line = area.bottom().saturating_add(230);
-    Label::start(Face::Mark, "amber", area.x.saturating_add(20), line)
-        .within(area.w.saturating_sub(40))
-        .add(text, b"read-only");
+fn draw_page_number(shapes: &mut Shapes, page: u32, area: Area) {
+    below(Face::Small, "soft", area, 125).say(shapes, "page #", &[page]);
 }
 
 /// Draws the mark of a page that has changed.
-fn draw_change(text: &mut Text, area: Area) {
-    add_rect(text, Look::of("new"), area.grown(30), 50);
+fn draw_change(shapes: &mut Shapes, area: Area) {
+    shapes.rect(Look::of("new"), area.grown(30), 50);
 }
 
-/// Draws the physical pages.
-pub(crate) fn draw_physical(text: &mut Text, scene: &Scene) -> Result<(), AllocError> {
-    for page in 0..scene.layout.physical {
-        let area = scene.page(scene.layout.physical_left(page), scene.bottom());
-        let now = held_by(text.alloc(), scene.now, page)?;
-        draw_contents(text, &now, area);
-        draw_page_number(text, page, area);
-        if held_otherwise(text.alloc(), scene.before, page, &now)? {
-            draw_change(text, area);
+/// Draws a physical page, with a mark if its contents have changed.
+fn draw_physical_page(shapes: &mut Shapes, scene: &Scene, page: u32) -> Result<(), AllocError> {
+    let area = scene.page(scene.layout.physical_left(page), scene.bottom());
+    let now = held_by(shapes.alloc(), scene.now, page)?;
+    draw_contents(shapes, &now, area);
+    draw_page_number(shapes, page, area);
+    if let Some(before) = scene.before {
+        let was = held_by(shapes.alloc(), before, page)?;
+        if !are_same(&was, &now) {
+            draw_change(shapes, area);
         }
     }
     Ok(())
 }
 
 /// Draws the contents of a physical page.
-fn draw_contents(text: &mut Text, held: &Contents, area: Area) {
+fn draw_contents(shapes: &mut Shapes, held: &Contents, area: Area) {
     if held.taken {
-        add_rect(text, Look::of("pg"), area, 30);
-        draw_parts(text, held.parts.as_slice(), area)
+        shapes.rect(Look::of("pg"), area, 30);
+        for part in held.parts.as_slice() {
+            draw_part(shapes, part, area);
+        }
     } else {
-        add_rect(text, Look::of("no"), area, 30);
-        let line = area.y.saturating_add(area.h / 2).saturating_add(35);
-        Label::middle(Face::Label, "soft", area.middle(), line).add(text, b"free")
+        shapes.rect(Look::of("no"), area, 30);
+        let line = sum(area.y, area.h / 2, 35);
+        Label::middle(Face::Label, "soft", area.middle(), line).say(shapes, "free", &[]);
     }
 }

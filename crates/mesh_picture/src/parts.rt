@@ -1,11 +1,11 @@
 //! The contents of a page: the parts of objects.
 use crate::alike::copied_slots;
-use crate::frame::{Frame, Home, Mapping, Member, Object, RunningMesh};
+use crate::frame::{Frame, Home, Mapping, Member, Object};
 use mesh_class::Class;
 use std::alloc::{AllocError, Global};
 
 /// The number of bytes in a page.
-const PAGE_BYTES: u32 = 4_096;
+pub const PAGE_BYTES: u32 = 4_096;
 
 /// The state of an object's bytes in a physical page.
 #[derive(Clone, Copy, PartialEq, Eq)]
@@ -44,9 +44,14 @@ pub struct Contents {
     pub parts: Vec<Part>,
 }
 
+/// Whether a page has the same contents twice.
+pub fn are_same(one: &Contents, other: &Contents) -> bool {
+    one.taken == other.taken && one.parts.as_slice() == other.parts.as_slice()
+}
+
 /// Returns the part of an object's slot that is in one page of the object's span. `place` is the page's index in the
 /// span. Returns `None` if the page contains no byte of the slot.
-fn part_of(object: &Object, class: Class, place: u32, state: State) -> Option<Part> {
+pub fn part_of(object: &Object, class: Class, place: u32, state: State) -> Option<Part> {
     let from = object.slot.saturating_mul(class.size());
     let to = from.saturating_add(class.size());
     let filled = from.saturating_add(object.len).min(to);
@@ -65,57 +70,13 @@ fn part_of(object: &Object, class: Class, place: u32, state: State) -> Option<Pa
     })
 }
 
-/// Adds the parts of a member's objects that are in the page at index `place` of the member's span. Only objects in
-/// slots with numbers below `below` are added.
-fn add_parts(
-    parts: &mut Vec<Part>,
-    frame: &Frame,
-    member: &Member,
-    place: u32,
-    below: u32,
-    state: State,
-) -> Result<(), AllocError> {
-    for object in frame.objects.as_slice() {
-        if object.member == member.first && object.slot < below {
-            add_part(parts, object, member.class, place, state)?;
-        }
-    }
-    Ok(())
-}
-
-/// Adds the part of an object that is in the page at index `place` of the object's span. Adds nothing if there is no
-/// such part.
-fn add_part(
-    parts: &mut Vec<Part>,
-    object: &Object,
-    class: Class,
-    place: u32,
-    state: State,
-) -> Result<(), AllocError> {
-    if let Some(part) = part_of(object, class, place, state) {
-        parts.push(part)?;
-    }
-    Ok(())
-}
-
 /// Returns the mapping of a virtual page, or `None` if the page isn't mapped.
 pub fn lead_of(frame: &Frame, page: u32) -> Option<&Mapping> {
     frame.leads.iter().find(|l| l.virtual_page == page)
 }
 
-/// Returns the parts of a member's objects that are in the page at index `place` of the member's span.
-pub fn member_parts(
-    alloc: Global,
-    frame: &Frame,
-    member: &Member,
-    place: u32,
-) -> Result<Vec<Part>, AllocError> {
-    let mut parts = Vec::new(alloc);
-    add_parts(&mut parts, frame, member, place, u32::MAX, State::Live)?;
-    Ok(parts)
-}
-
-/// Returns the contents of a physical page. A page that is not taken has no parts.
+/// Returns the contents of a physical page: the objects of the page's group, and those that a mesh has copied to the
+/// page. A page that is not taken has no parts.
 pub fn held_by(alloc: Global, frame: &Frame, page: u32) -> Result<Contents, AllocError> {
     let mut parts = Vec::new(alloc);
     let Some(home) = frame.homes.iter().find(|h| h.page == page && h.taken) else {
@@ -126,24 +87,12 @@ pub fn held_by(alloc: Global, frame: &Frame, page: u32) -> Result<Contents, Allo
     };
     add_group(&mut parts, frame, home, home.group, u32::MAX, State::Old)?;
     for mesh in frame.meshes.as_slice() {
-        add_copies(&mut parts, frame, home, mesh)?;
+        if mesh.destination == home.group {
+            let below = copied_slots(frame, mesh);
+            add_group(&mut parts, frame, home, mesh.source, below, State::Copied)?;
+        }
     }
     Ok(Contents { taken: true, parts })
-}
-
-/// Adds the parts of the objects that a mesh has copied to a page. Adds nothing if the page doesn't belong to the
-/// mesh's destination.
-fn add_copies(
-    parts: &mut Vec<Part>,
-    frame: &Frame,
-    home: &Home,
-    mesh: &RunningMesh,
-) -> Result<(), AllocError> {
-    if mesh.destination != home.group {
-        return Ok(());
-    }
-    let below = copied_slots(frame, mesh);
-    add_group(parts, frame, home, mesh.source, below, State::Copied)
 }
 
 /// Adds the parts of a group's objects that are in a page, for the slots with numbers below `below`. A part is `Live`
@@ -175,6 +124,26 @@ fn state_in(frame: &Frame, member: &Member, home: &Home, unmapped: State) -> Sta
     }
 }
 
+/// Adds the parts of a member's objects that are in the page at the index `place` of the member's span. Only objects in
+/// slots with numbers below `below` are added.
+fn add_parts(
+    parts: &mut Vec<Part>,
+    frame: &Frame,
+    member: &Member,
+    place: u32,
+    below: u32,
+    state: State,
+) -> Result<(), AllocError> {
+    for object in frame.objects.as_slice() {
+        if object.member == member.first && object.slot < below {
+            if let Some(part) = part_of(object, member.class, place, state) {
+                parts.push(part)?;
+            }
+        }
+    }
+    Ok(())
+}
+
 /// Returns the number of groups in a frame.
 pub fn groups_of(frame: &Frame) -> u32 {
     let mut count = 0u32;
@@ -197,21 +166,5 @@ pub fn group_of(frame: &Frame, page: u32) -> u32 {
     match member {
         Some(member) => member.group,
         None => 0,
-    }
-}
-
-/// Whether a physical page had other contents than `now` in the frame `before`. False if `before` is `None`.
-pub fn held_otherwise(
-    alloc: Global,
-    before: Option<&Frame>,
-    page: u32,
-    now: &Contents,
-) -> Result<bool, AllocError> {
-    match before {
-        None => Ok(false),
-        Some(before) => {
-            let was = held_by(alloc, before, page)?;
-            Ok(was.taken != now.taken || was.parts.as_slice() != now.parts.as_slice())
-        }
     }
 }

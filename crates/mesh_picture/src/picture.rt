@@ -1,26 +1,31 @@
 //! The picture: one card for each visible change of the heap.
-ghost use Rattle.std.specs.Prelude.{◌≡◌, ◌+◌, [], IfOk, IfSome, OnOk, Some, codes};
+ghost use Rattle.std.specs.Prelude.{◌≡◌, ◌+◌, [], IfOk, IfSome, MatchBool, OnOk, Some, codes};
+ghost use Rattle.mesh_picture.specs.Cards.{DrawsCard, EndsFile};
 ghost use Rattle.mesh_svg.specs.Begins.{Begins};
+ghost use Rattle.mesh_svg.specs.Shapes.{Draws};
 
 use crate::arrows::draw_arrows;
 use crate::frame::{Counts, Frame};
 use crate::gathering::{Gathering, Line, cut};
-use crate::layout::{BAR, BETWEEN, HEAD, MARGIN};
+use crate::layout::{BETWEEN, HEAD, MARGIN, above};
 use crate::legend::draw_legend;
 use crate::lettering::{Face, Label, width_of};
 use crate::measure::{Measure, Measured};
 use crate::mesh_bar::draw_meshes;
-use crate::numbers::narrow;
+use crate::numbers::{narrow, sum};
 use crate::occupancy::draw_groups;
-use crate::pages::{Scene, draw_physical, draw_row_names, draw_virtual};
+use crate::pages::{Scene, draw_pages};
 use crate::pills::{LINE, draw_captions};
 use crate::style::add_rules;
-use mesh_svg::{Area, Look, Text, add_rect, add_root};
+use mesh_svg::{Area, Look, Shape, Shapes, Text};
 use std::alloc::{AllocError, Global};
 use std::marker::Model;
 
 /// The greatest number of bytes that are shown of a title.
 const MAX_TITLE: usize = 64;
+
+/// What the word `saved` of a card means.
+const SAVED: &str = "; saved = virtual pages mapped − physical pages taken";
 
 /// The least width of a picture, which the legend needs.
 const LEAST_WIDTH: u32 = 12_200;
@@ -39,7 +44,9 @@ pub struct Header {
 /// A picture that is being drawn.
 pub struct Picture {
     measured: Measured,
+    // The title of the file, and the title that is drawn.
     title: Vec<u8>,
+    name: Vec<u8>,
     header: Header,
     gathering: Gathering,
     row: usize,
@@ -59,7 +66,7 @@ impl Model for Picture {
 
 #[rattlefmt::skip]
 impl Drop for Picture {
-    fn drop(self) { let Picture { measured: _, title: _, header: _, gathering: _, row: _, column: _, y: _, next: _ } = self; }
+    fn drop(self) { let Picture { measured: _, title: _, name: _, header: _, gathering: _, row: _, column: _, y: _, next: _ } = self; }
 }
 
 /// The options of a picture.
@@ -85,7 +92,8 @@ impl Picture {
     {
         Ok(Picture {
             measured: measure.finish(drawn.columns)?,
-            title: cut(alloc, drawn.title.as_bytes(), MAX_TITLE)?,
+            title: cut(alloc, b"Meshing in ", drawn.title.as_bytes(), MAX_TITLE)?,
+            name: cut(alloc, b"", drawn.title.as_bytes(), MAX_TITLE)?,
             header,
             gathering: Gathering::new(alloc),
             row: 0,
@@ -107,93 +115,93 @@ impl Picture {
     pub fn head(&self, text: &mut Text)
         ensures { text.old ≡ Some [] → IfSome text.new (Begins (codes "<svg")) }
     {
-        let mut head = text.empty();
-        self.draw_head(&mut head);
-        text.add(b"<svg");
-        text.add(head.bytes());
-        text.share_refusal(&head);
-    }
-
-    /// Draws the head of the file: the text after the first word `<svg` and before the first frame.
-    fn draw_head(&self, text: &mut Text) {
-        let width = self
-            .measured
-            .layout
-            .width()
-            .max(LEAST_WIDTH)
-            .saturating_add(2 * MARGIN);
-        let height = total_height(self.measured.rows.as_slice());
-        let mut title = text.empty();
-        title.add(b"Meshing in ");
-        title.add(self.title.as_slice());
-        add_root(text, &title, width, height);
+        let mut shapes = Shapes::new(text.alloc());
+        let all = self.area();
+        text.add_root(self.title.as_slice(), all.w, all.h);
         add_rules(text);
-        let all = Area {
-            x: 0,
-            y: 0,
-            w: width,
-            h: height,
-        };
-        add_rect(text, Look::of("bg"), all, 0);
-        Label::start(Face::Title, "ink", MARGIN, 290).add(text, self.title.as_slice());
-        self.draw_note(text, width);
-        draw_legend(text, self.measured.layout.by_pages);
+        shapes.rect(Look::of("bg"), all, 0);
+        self.draw_title(&mut shapes, all.w);
+        draw_legend(&mut shapes, self.measured.layout.by_pages);
+        text.draw(&shapes);
     }
 
-    /// Draws the note after the title: the values of the job's header, the numbers of the plan's lines, and what
-    /// `saved` is.
-    fn draw_note(&self, text: &mut Text, width: u32) {
-        let mut words = text.empty();
-        self.header.add(&mut words);
-        if let Some((first, last)) = self.measured.lines {
-            words.add(b"; plan lines ");
-            words.add_number(first);
-            words.add(b" to ");
-            words.add_number(last);
+    /// Returns the area of the whole picture.
+    fn area(&self) -> Area {
+        let width = self.measured.layout.width().max(LEAST_WIDTH);
+        let mut height = HEAD;
+        for row in self.measured.rows.as_slice() {
+            height = sum(height, *row, BETWEEN);
         }
-        words.add("; saved = virtual pages mapped − physical pages taken".as_bytes());
-        let title = width_of(Face::Title, self.title.as_slice());
-        let left = title.saturating_add(MARGIN + 160);
+        Area::at(
+            0,
+            0,
+            width.saturating_add(2 * MARGIN),
+            height.saturating_add(60),
+        )
+    }
+
+    /// Draws the title, and a note after it: the values of the job's header, the numbers of the plan's lines, and what
+    /// `saved` is.
+    fn draw_title(&self, shapes: &mut Shapes, width: u32) {
+        let title = shapes.spell(self.name.as_slice(), "", &[]);
+        let left = width_of(Face::Title, title.as_slice()).saturating_add(MARGIN + 160);
+        Label::start(Face::Title, "ink", MARGIN, 290).draw(shapes, title);
+        let room = width.saturating_sub(MARGIN).saturating_sub(left);
+        let header = self.header.spelled(shapes);
+        let (lines, first, last) = match self.measured.lines {
+            Some((first, last)) => ("; plan lines # to #", first, last),
+            None => ("", 0, 0),
+        };
+        let about = shapes.spell(header.as_slice(), lines, &[first, last]);
+        let note = shapes.spell(about.as_slice(), SAVED, &[]);
         Label::start(Face::Note, "soft", left, 290)
-            .within(width.saturating_sub(MARGIN).saturating_sub(left))
-            .add_text(text, &words);
+            .within(room)
+            .draw(shapes, note);
     }
 
     /// Adds a point: a line of the plan, and the heap after this line. Draws a card if the heap doesn't look as in the
-    /// card before. The points must be those that were measured, in the same order. The only error is an allocation
-    /// failure.
+    /// card before, and returns whether it has drawn one. The points must be those that were measured, in the same
+    /// order. The only error is an allocation failure.
     pub fn point(
         &mut self,
         line: &Line<'_>,
         frame: &Frame,
         text: &mut Text,
-    ) -> Result<(), AllocError>
-        ensures { OnOk result (self.new ≡ line.now.number + 1) }
+    ) -> Result<bool, AllocError>
+        ensures next { OnOk result (self.new ≡ line.now.number + 1) }
+        ensures drawn { IfOk result (λ drawn. MatchBool drawn (DrawsCard text.old text.new) (text.new ≡ text.old)) }
     {
         self.next = line.number as usize + 1;
         self.gathering.add(line)?;
         if !self.gathering.is_due(frame) {
-            return self.gathering.keep_up(frame);
+            self.gathering.keep_up(frame)?;
+            return Ok(false);
         }
         self.draw(frame, text)?;
         self.gathering.shown(frame)?;
         self.step();
-        Ok(())
+        Ok(true)
     }
 
     /// Draws a last card if there are lines after the last change, and appends the end of the file. The only error is
     /// an allocation failure.
-    pub fn end(&self, text: &mut Text) -> Result<(), AllocError> {
-        if !self.gathering.captions.is_empty() {
-            self.draw_last(text)?;
-        }
+    pub fn end(&self, text: &mut Text) -> Result<(), AllocError>
+        ensures { OnOk result (EndsFile text.old text.new) }
+    {
+        self.draw_rest(text)?;
         text.add(b"</svg>\n");
         Ok(())
     }
 
-    /// Draws a last card for the lines after the last change. The card repeats the last frame.
-    fn draw_last(&self, text: &mut Text) -> Result<(), AllocError> {
-        self.draw(&self.gathering.last, text)
+    /// Draws a last card if there are lines after the last change. The card repeats the last frame.
+    fn draw_rest(&self, text: &mut Text) -> Result<(), AllocError>
+        ensures { OnOk result (Draws text.old text.new) }
+    {
+        if self.gathering.captions.is_empty() {
+            return Ok(());
+        }
+        self.draw(&self.gathering.last, text)?;
+        Ok(())
     }
 
     /// Returns the height of the row that contains the next card.
@@ -207,10 +215,7 @@ impl Picture {
     {
         self.column = self.column.saturating_add(1);
         if self.column >= self.measured.layout.columns {
-            self.y = self
-                .y
-                .saturating_add(self.row_height())
-                .saturating_add(BETWEEN);
+            self.y = sum(self.y, self.row_height(), BETWEEN);
             self.column = 0;
             self.row = self.row.saturating_add(1);
         }
@@ -218,51 +223,49 @@ impl Picture {
 
     /// Returns the area of the next card.
     fn card(&self) -> Area {
-        let layout = &self.measured.layout;
-        let beside = layout.card.saturating_add(BETWEEN);
-        Area {
-            x: MARGIN.saturating_add(self.column.saturating_mul(beside)),
-            y: self.y,
-            w: layout.card,
-            h: self.row_height(),
-        }
+        let width = self.measured.layout.card;
+        let beside = self.column.saturating_mul(width.saturating_add(BETWEEN));
+        Area::at(
+            MARGIN.saturating_add(beside),
+            self.y,
+            width,
+            self.row_height(),
+        )
     }
 
-    /// Draws a card: its captions, page counts and bars of meshes, and the heap below them.
-    fn draw(&self, frame: &Frame, text: &mut Text) -> Result<(), AllocError> {
+    /// Draws a card with a frame.
+    fn draw(&self, frame: &Frame, text: &mut Text) -> Result<(), AllocError>
+        ensures { OnOk result (DrawsCard text.old text.new) }
+    {
         let card = self.card();
-        add_rect(text, Look::of("card"), card, 60);
-        draw_captions(text, &self.gathering, card.x, card.y);
-        draw_counts(text, &frame.counts, card);
-        let lines = self.gathering.height().saturating_mul(LINE);
-        let bars = card.y.saturating_add(lines).saturating_add(120);
-        draw_meshes(text, frame, card.x, bars, card.w);
-        let below = bars.saturating_add(narrow(frame.meshes.len()).saturating_mul(BAR));
-        self.draw_heap(frame, text, card.x, below)
+        let mut shapes = Shapes::new(text.alloc());
+        self.draw_card(frame, &mut shapes, card)?;
+        text.add_shape(&Shape::Rect(Look::of("card"), card, 60));
+        text.draw(&shapes);
+        Ok(())
     }
 
-    /// Draws a heap below the vertical position `y`.
-    fn draw_heap(&self, frame: &Frame, text: &mut Text, x: u32, y: u32) -> Result<(), AllocError> {
+    /// Draws the contents of a card: its captions, page counts and bars of meshes, and the heap below them.
+    fn draw_card(&self, frame: &Frame, shapes: &mut Shapes, card: Area) -> Result<(), AllocError> {
+        draw_captions(shapes, &self.gathering, card.x, card.y)?;
+        draw_counts(shapes, &frame.counts, card);
+        let lines = self.gathering.height();
+        let bars = sum(card.y, lines.saturating_mul(LINE), 120);
+        draw_meshes(shapes, frame, card.x, bars, card.w);
+        let above = above(lines, narrow(frame.meshes.len()));
         let layout = &self.measured.layout;
-        let space = if layout.by_pages {
-            layout.heading()
-        } else {
-            60
-        };
         let scene = Scene {
             layout,
             now: frame,
             before: self.before(),
-            x,
-            top: y.saturating_add(space),
+            x: card.x,
+            top: sum(card.y, above, layout.heading()),
         };
         if !layout.by_pages {
-            return draw_groups(text, &scene);
+            return draw_groups(shapes, &scene);
         }
-        draw_row_names(text, &scene);
-        draw_virtual(text, &scene)?;
-        draw_physical(text, &scene)?;
-        draw_arrows(text, &scene);
+        draw_pages(shapes, &scene)?;
+        draw_arrows(shapes, &scene);
         Ok(())
     }
 
@@ -277,45 +280,28 @@ impl Picture {
 }
 
 impl Header {
-    /// Appends the header's values as words.
-    fn add(self, words: &mut Text) {
-        words.add(b"version ");
-        words.add_number(self.version);
-        words.add(b", ");
-        words.add_number(self.pages);
-        words.add(b" physical pages of 4096 bytes, ");
-        words.add_number(self.workers);
-        words.add(if self.workers == 1 {
-            b" worker".as_slice()
-        } else {
-            b" workers".as_slice()
-        });
+    /// Returns the header's values as words.
+    fn spelled(self, shapes: &mut Shapes) -> Vec<u8> {
+        let template = match self.workers {
+            1 => "version #, # physical pages of 4096 bytes, # worker",
+            _ => "version #, # physical pages of 4096 bytes, # workers",
+        };
+        shapes.spell(b"", template, &[self.version, self.pages, self.workers])
     }
-}
-
-/// Returns the height of a picture with these heights of its rows of cards.
-fn total_height(rows: &[u32]) -> u32 {
-    let mut height = HEAD;
-    for row in rows {
-        height = height.saturating_add(*row).saturating_add(BETWEEN);
-    }
-    height.saturating_add(60)
 }
 
 /// Draws the counts of a heap in the upper right corner of a card.
-fn draw_counts(text: &mut Text, counts: &Counts, card: Area) {
-    let mut words = text.empty();
-    words.add_number(counts.mapped);
-    words.add(" − ".as_bytes());
-    words.add_number(counts.taken);
-    words.add(b" = ");
-    words.add_number(counts.saved);
-    words.add(b" saved");
+fn draw_counts(shapes: &mut Shapes, counts: &Counts, card: Area) {
     let right = card.x.saturating_add(card.w).saturating_sub(120);
     let line = card.y.saturating_add(200);
-    if counts.saved > 0 {
-        Label::end(Face::Strong, "green", right, line).add_text(text, &words)
-    } else {
-        Label::end(Face::Note, "soft", right, line).add_text(text, &words)
-    }
+    let (face, ink) = match counts.saved {
+        0 => (Face::Note, "soft"),
+        _ => (Face::Strong, "green"),
+    };
+    let label = Label::end(face, ink, right, line);
+    label.say(
+        shapes,
+        "# − # = # saved",
+        &[counts.mapped, counts.taken, counts.saved],
+    );
 }

@@ -1,70 +1,45 @@
 //! Drawing the lines above a frame.
 use crate::gathering::{Caption, Gathering};
 use crate::lettering::{Face, Label, width_of};
-use mesh_svg::{Area, Look, Text, add_rect};
+use mesh_svg::{Area, Look, Shapes, words_of};
 use std::alloc::AllocError;
 
-/// The kind of an answer to a line.
-#[derive(Clone, Copy, PartialEq, Eq)]
-pub enum Tone {
-    /// The line was done.
-    Done,
-    /// The line was blocked, and can be retried.
-    Blocked,
-    /// The line was refused, or could not be run.
-    Refused,
-    /// The mesher did something.
-    Mesher,
+/// Returns the style rule of an answer: of a line that was blocked, of a line that was not done because of a refusal,
+/// an ended script or a full journal, of something that the mesher did, or of a line that was done.
+fn tone_of(answer: &[u8]) -> &'static str {
+    if answer.starts_with(b"blocked") {
+        "pb"
+    } else if begins_with_any(answer, &REFUSALS) {
+        "pr"
+    } else if is_step(answer) || begins_with_any(answer, &MESHES) {
+        "pm"
+    } else {
+        "pd"
+    }
 }
 
-impl Tone {
-    /// Returns the style rule of the kind.
-    fn rule(self) -> &'static str {
-        match self {
-            Tone::Done => "pd",
-            Tone::Blocked => "pb",
-            Tone::Refused => "pr",
-            Tone::Mesher => "pm",
+/// The first words of answers to lines that were not done.
+static REFUSALS: [&str; 3] = ["refused", "over", "history full"];
+
+/// The first words of answers that report what the mesher did, other than steps.
+static MESHES: [&str; 4] = ["left ", "meshed ", "swept ", "found "];
+
+/// The first words of answers to steps.
+static STEPS: [&str; 5] = ["protect ", "copy ", "remap ", "unprotect ", "release "];
+
+/// Whether an answer begins with one of these words.
+fn begins_with_any(answer: &[u8], words: &[&str]) -> bool {
+    for word in words {
+        if answer.starts_with(word.as_bytes()) {
+            return true;
         }
     }
-}
-
-/// Returns the kind of an answer.
-pub fn tone_of(answer: &[u8]) -> Tone {
-    if answer.starts_with(b"blocked") {
-        Tone::Blocked
-    } else if says_refused(answer) {
-        Tone::Refused
-    } else if is_of_mesher(answer) {
-        Tone::Mesher
-    } else {
-        Tone::Done
-    }
-}
-
-/// Whether an answer reports that nothing was done because of a refusal, an ended script or a full journal.
-fn says_refused(answer: &[u8]) -> bool {
-    answer.starts_with(b"refused")
-        || answer.starts_with(b"over")
-        || answer.starts_with(b"history full")
-}
-
-/// Whether an answer reports something that the mesher did.
-fn is_of_mesher(answer: &[u8]) -> bool {
-    is_step(answer)
-        || answer.starts_with(b"left ")
-        || answer.starts_with(b"meshed ")
-        || answer.starts_with(b"swept ")
-        || answer.starts_with(b"found ")
+    false
 }
 
 /// Whether an answer is that of a step.
 pub fn is_step(answer: &[u8]) -> bool {
-    answer.starts_with(b"protect ")
-        || answer.starts_with(b"copy ")
-        || answer.starts_with(b"remap ")
-        || answer.starts_with(b"unprotect ")
-        || answer.starts_with(b"release ")
+    begins_with_any(answer, &STEPS)
 }
 
 /// The distance from one caption to the next.
@@ -84,7 +59,7 @@ const BESIDE: u32 = 1_800;
 
 /// Returns the width of a card that a caption needs. The only error is an allocation failure.
 pub fn caption_width(caption: &Caption) -> Result<u32, AllocError> {
-    let words = width_of(Face::Line, told(caption).whole()?);
+    let words = width_of(Face::Line, told(caption)?.as_slice());
     let answer = width_of(Face::Pill, caption.answer.as_slice());
     Ok(
         words
@@ -94,75 +69,66 @@ pub fn caption_width(caption: &Caption) -> Result<u32, AllocError> {
 }
 
 /// Returns the words of a caption. If the caption represents several lines, their number is appended.
-fn told(caption: &Caption) -> Text {
-    let mut words = Text::new(*caption.words.allocator());
-    words.add(caption.words.as_slice());
-    if caption.times > 1 {
-        words.add(" ×".as_bytes());
-        words.add_number(caption.times);
-    }
-    words
+fn told(caption: &Caption) -> Result<Vec<u8>, AllocError> {
+    let times = if caption.times > 1 { " ×#" } else { "" };
+    let words = caption.words.as_slice();
+    words_of(*caption.words.allocator(), words, times, &[caption.times])
 }
 
 /// Draws the captions of a frame into the card with the upper left corner (`x`, `y`).
-pub fn draw_captions(text: &mut Text, gathering: &Gathering, x: u32, y: u32) {
+pub fn draw_captions(
+    shapes: &mut Shapes,
+    gathering: &Gathering,
+    x: u32,
+    y: u32,
+) -> Result<(), AllocError> {
     let count = gathering.captions.len();
     let mut top = y;
     for (index, caption) in gathering.captions.iter().enumerate() {
         if index.saturating_add(1) == count && gathering.hidden > 0 {
-            draw_hidden(text, gathering.hidden, x, top);
+            let (left, line) = (x.saturating_add(INDENT), top.saturating_add(200));
+            let label = Label::start(Face::Note, "soft", left, line);
+            label.say(shapes, ".. and # more lines", &[gathering.hidden]);
             top = top.saturating_add(LINE);
         }
-        draw_caption(text, caption, x, top);
+        draw_caption(shapes, caption, x, top)?;
         top = top.saturating_add(LINE);
     }
+    Ok(())
 }
 
-/// Draws the number of lines that are left out.
-fn draw_hidden(text: &mut Text, hidden: u32, x: u32, y: u32) {
-    let mut words = text.empty();
-    words.add(b".. and ");
-    words.add_number(hidden);
-    words.add(b" more lines");
-    let (left, line) = (x.saturating_add(INDENT), y.saturating_add(200));
-    Label::start(Face::Note, "soft", left, line).add_text(text, &words);
-}
-
-/// Draws a caption.
-fn draw_caption(text: &mut Text, caption: &Caption, x: u32, y: u32) {
+/// Draws a caption: the numbers of its lines, its words and its answer.
+fn draw_caption(shapes: &mut Shapes, caption: &Caption, x: u32, y: u32) -> Result<(), AllocError> {
     let line = y.saturating_add(200);
-    draw_line_number(text, caption, x.saturating_add(INDENT - 100), line);
-    let words = told(caption);
+    draw_line_number(shapes, caption, x.saturating_add(INDENT - 100), line);
+    let words = told(caption)?;
     let left = x.saturating_add(INDENT);
-    Label::start(Face::Line, "ink", left, line).add_text(text, &words);
     let after = left
-        .saturating_add(width_of(Face::Line, words.bytes()))
+        .saturating_add(width_of(Face::Line, words.as_slice()))
         .saturating_add(SPACE);
-    draw_pill(text, caption, after, y);
+    Label::start(Face::Line, "ink", left, line).draw(shapes, words);
+    draw_pill(shapes, caption, after, y);
+    Ok(())
 }
 
 /// Draws the number of a caption's line, or the numbers of its first and last line. The text ends at `x`.
-fn draw_line_number(text: &mut Text, caption: &Caption, x: u32, y: u32) {
-    let mut words = text.empty();
-    words.add_number(caption.from);
-    if caption.to != caption.from {
-        words.add("–".as_bytes());
-        words.add_number(caption.to);
-    }
-    Label::end(Face::Number, "soft", x, y)
-        .within(INDENT - 160)
-        .add_text(text, &words);
+fn draw_line_number(shapes: &mut Shapes, caption: &Caption, x: u32, y: u32) {
+    let words = if caption.to == caption.from {
+        "#"
+    } else {
+        "#–#"
+    };
+    let label = Label::end(Face::Number, "soft", x, y).within(INDENT - 160);
+    label.say(shapes, words, &[caption.from, caption.to]);
 }
 
 /// Draws a caption's answer.
-fn draw_pill(text: &mut Text, caption: &Caption, x: u32, y: u32) {
-    let area = Area {
-        x,
-        y: y.saturating_add(80),
-        w: width_of(Face::Pill, caption.answer.as_slice()).saturating_add(2 * PAD),
-        h: 160,
-    };
-    add_rect(text, Look::of(caption.tone.rule()), area, 80);
+fn draw_pill(shapes: &mut Shapes, caption: &Caption, x: u32, y: u32) {
+    let answer = caption.answer.as_slice();
+    let width = width_of(Face::Pill, answer).saturating_add(2 * PAD);
+    let area = Area::at(x, y.saturating_add(80), width, 160);
+    shapes.rect(Look::of(tone_of(answer)), area, 80);
     let (left, line) = (x.saturating_add(PAD), y.saturating_add(198));
-    Label::start(Face::Pill, "pt", left, line).add(text, caption.answer.as_slice());
+    let words = shapes.spell(answer, "", &[]);
+    Label::start(Face::Pill, "pt", left, line).draw(shapes, words);
 }

@@ -87,10 +87,7 @@ impl Curves {
     {
         let mut text = Text::new(alloc);
         self.plotted().draw(&mut text);
-        let mut file = Vec::new(alloc);
-        file.extend_from_slice(b"<svg")?;
-        file.extend_from_slice(text.whole()?)?;
-        Ok(file)
+        text.finish()
     }
 
     /// Returns the data of the plot.

@@ -1,8 +1,8 @@
 //! The legend: a piece of each curve, with the name of the curve.
 use crate::lines::{CURVES, Curve};
-use crate::plot::PLOT;
+use crate::plot::{PLOT, write};
 use crate::style::NOTE;
-use mesh_svg::{Anchor, Label, Look, Text, add_path};
+use mesh_svg::{Anchor, Look, Shapes, Way};
 
 /// The distance between the starts of two names.
 const COLUMN: u32 = 1_900;
@@ -14,25 +14,28 @@ const PIECE: u32 = 420;
 const LINE: u32 = 720;
 
 /// Draws the legend.
-pub fn draw_legend(text: &mut Text) {
+pub fn draw_legend(shapes: &mut Shapes) {
     let mut x = PLOT.x;
     for curve in &CURVES {
-        draw_entry(text, *curve, x);
+        draw_entry(shapes, *curve, x);
         x = x.saturating_add(COLUMN);
     }
 }
 
 /// Draws a curve's entry.
-fn draw_entry(text: &mut Text, curve: Curve, x: u32) {
+fn draw_entry(shapes: &mut Shapes, curve: Curve, x: u32) {
     let end = x.saturating_add(PIECE);
-    let middle = LINE - 40;
-    add_path(text, curve.look(), &[("M", x, middle), ("L", end, middle)]);
-    Label {
-        look: Look::of("ink").with(NOTE),
-        anchor: Anchor::Start,
-        x: end.saturating_add(90),
-        y: LINE,
-        width: None,
-    }
-    .add(text, curve.name().as_bytes());
+    shapes.point(Way::Move, x, LINE - 40);
+    shapes.point(Way::Line, end, LINE - 40);
+    shapes.path(curve.look());
+    let name = shapes.spell(b"", curve.name(), &[]);
+    let look = Look::of("ink").with(NOTE);
+    write(
+        shapes,
+        look,
+        Anchor::Start,
+        end.saturating_add(90),
+        LINE,
+        name,
+    );
 }

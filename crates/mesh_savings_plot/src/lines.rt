@@ -2,7 +2,7 @@
 use crate::plot::PLOT;
 use crate::scale::Axis;
 use crate::spans::{Interval, Span};
-use mesh_svg::{Look, Text, add_point, begin_path, end_path};
+use mesh_svg::{Look, Shapes, Way};
 
 /// A curve.
 #[derive(Clone, Copy)]
@@ -75,20 +75,23 @@ pub fn most_pages(intervals: &[Interval]) -> u32 {
 
 impl Drawn<'_> {
     /// Draws a curve.
-    pub fn draw(&self, text: &mut Text, curve: Curve) {
-        begin_path(text, curve.look());
+    pub fn draw(&self, shapes: &mut Shapes, curve: Curve) {
         let mut before: Option<Span> = None;
         let mut begin = self.calls.first;
         for interval in self.intervals {
             let span = curve.span(interval);
-            let way = if before.is_none() { "M" } else { "L" };
+            let way = if before.is_none() {
+                Way::Move
+            } else {
+                Way::Line
+            };
             let points = self.points(begin, span, is_rising(before, span));
-            add_point(text, way, points[0].0, points[0].1);
-            add_point(text, "L", points[1].0, points[1].1);
+            shapes.point(way, points[0].0, points[0].1);
+            shapes.point(Way::Line, points[1].0, points[1].1);
             before = Some(span);
             begin = begin.saturating_add(self.width);
         }
-        end_path(text);
+        shapes.path(curve.look());
     }
 
     /// Returns the two points of an interval that begins after `begin` calls: one at its first call, and one at its

@@ -1,11 +1,14 @@
 //! The whole plot.
+ghost use Rattle.std.specs.Prelude.{◌≡◌, [], IfSome, Some, codes};
+ghost use Rattle.mesh_svg.specs.Begins.{Begins};
+
 use crate::axes::{draw_calls, draw_pages};
 use crate::legend::draw_legend;
 use crate::lines::{CURVES, Drawn, most_pages};
 use crate::scale::Axis;
 use crate::spans::Interval;
-use crate::style::{HEADING, NOTE, add_rules};
-use mesh_svg::{Anchor, Area, Label, Look, Text, add_rect, add_root};
+use crate::style::{DARK_RULES, HEADING, NOTE, RULES};
+use mesh_svg::{Anchor, Area, Label, Look, Shapes, Text};
 
 /// The width of the picture. All lengths are in tenths of a pixel.
 const WIDTH: u32 = 9_000;
@@ -36,28 +39,37 @@ pub struct Plotted<'a> {
 }
 
 impl Plotted<'_> {
-    /// Draws the plot. The drawn text follows `<svg`, the first word of the file.
-    pub fn draw(&self, text: &mut Text) {
-        let mut title = text.empty();
-        title.add(TITLE.as_bytes());
-        add_root(text, &title, WIDTH, HEIGHT);
-        add_rules(text);
-        draw_grounds(text);
-        self.draw_head(text);
-        draw_legend(text);
-        let calls = Axis::of_calls(self.before, self.count);
-        let pages = Axis::of_pages(most_pages(self.intervals));
-        draw_pages(text, pages);
-        draw_calls(text, calls);
-        self.draw_curves(text, calls, pages);
+    /// Appends the plot as an SVG file.
+    pub fn draw(&self, text: &mut Text)
+        ensures { text.old ≡ Some [] → IfSome text.new (Begins (codes "<svg")) }
+    {
+        text.add_root(TITLE.as_bytes(), WIDTH, HEIGHT);
+        text.add_style(RULES, DARK_RULES);
+        let mut shapes = Shapes::new(text.alloc());
+        self.draw_shapes(&mut shapes);
+        text.draw(&shapes);
         text.add(b"</svg>\n");
     }
 
-    /// Draws the curves, or a note that there are no curves.
-    fn draw_curves(&self, text: &mut Text, calls: Axis, pages: Axis) {
+    /// Draws the shapes of the plot.
+    fn draw_shapes(&self, shapes: &mut Shapes) {
+        shapes.rect(Look::of("bg"), Area::at(0, 0, WIDTH, HEIGHT), 0);
+        shapes.rect(Look::of("card"), PLOT, 0);
+        self.draw_head(shapes);
+        draw_legend(shapes);
+        let calls = Axis::of_calls(self.before, self.count);
+        let pages = Axis::of_pages(most_pages(self.intervals));
+        draw_pages(shapes, pages);
+        draw_calls(shapes, calls);
         if self.count == 0 {
-            return draw_nothing(text);
+            draw_nothing(shapes)
+        } else {
+            self.draw_curves(shapes, calls, pages)
         }
+    }
+
+    /// Draws the curves.
+    fn draw_curves(&self, shapes: &mut Shapes, calls: Axis, pages: Axis) {
         let drawn = Drawn {
             intervals: self.intervals,
             width: self.width,
@@ -65,56 +77,63 @@ impl Plotted<'_> {
             pages,
         };
         for curve in &CURVES {
-            drawn.draw(text, *curve);
+            drawn.draw(shapes, *curve);
         }
     }
 
     /// Draws the title, and a note that explains the numbers.
-    fn draw_head(&self, text: &mut Text) {
-        let title = Label {
-            look: Look::of("ink").with(HEADING),
-            anchor: Anchor::Start,
-            x: PLOT.x,
-            y: 300,
-            width: None,
+    fn draw_head(&self, shapes: &mut Shapes) {
+        let title = shapes.spell(b"", TITLE, &[]);
+        write(
+            shapes,
+            Look::of("ink").with(HEADING),
+            Anchor::Start,
+            PLOT.x,
+            300,
+            title,
+        );
+        let values = if self.width > 1 {
+            "; the least and the greatest value of every # calls"
+        } else {
+            ""
         };
-        title.add(text, TITLE.as_bytes());
-        let mut words = text.empty();
-        words.add(b"pages of objects up to 2,048 bytes");
-        if self.width > 1 {
-            words.add(b"; the least and the greatest value of every ");
-            words.add_number(self.width);
-            words.add(b" calls");
-        }
-        Label {
-            look: Look::of("soft").with(NOTE),
-            y: 500,
-            ..title
-        }
-        .add_text(text, &words);
+        let note = shapes.spell(b"pages of objects up to 2,048 bytes", values, &[self.width]);
+        write(
+            shapes,
+            Look::of("soft").with(NOTE),
+            Anchor::Start,
+            PLOT.x,
+            500,
+            note,
+        );
     }
 }
 
-/// Draws the backgrounds of the picture and of the plot.
-fn draw_grounds(text: &mut Text) {
-    let all = Area {
-        x: 0,
-        y: 0,
-        w: WIDTH,
-        h: HEIGHT,
-    };
-    add_rect(text, Look::of("bg"), all, 0);
-    add_rect(text, Look::of("card"), PLOT, 0);
+/// Writes words at a place, in their natural width.
+pub fn write(shapes: &mut Shapes, look: Look, anchor: Anchor, x: u32, y: u32, words: Vec<u8>) {
+    let width = None;
+    shapes.words(
+        Label {
+            look,
+            anchor,
+            x,
+            y,
+            width,
+        },
+        words,
+    );
 }
 
 /// Draws a note that there are no curves.
-fn draw_nothing(text: &mut Text) {
-    Label {
-        look: Look::of("soft").with(NOTE),
-        anchor: Anchor::Middle,
-        x: PLOT.middle(),
-        y: PLOT.y + PLOT.h / 2,
-        width: None,
-    }
-    .add(text, b"no call was measured");
+fn draw_nothing(shapes: &mut Shapes) {
+    let note = shapes.spell(b"no call was measured", "", &[]);
+    let look = Look::of("soft").with(NOTE);
+    write(
+        shapes,
+        look,
+        Anchor::Middle,
+        PLOT.middle(),
+        PLOT.y + PLOT.h / 2,
+        note,
+    );
 }

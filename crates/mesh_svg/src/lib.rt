@@ -1,14 +1,14 @@
-//! SVG as a growing text: elements with escaped text, and allocation failures that are reported at the end.
+//! SVG as data: shapes, the one writer of their text, and a growing text with allocation failures reported at the end.
 #![tactic(auto)]
 
-mod elements;
+mod drawing;
 mod files;
-mod labels;
+mod shapes;
+mod templates;
 mod text;
+mod writer;
 
-pub use elements::{
-    Area, Look, add_attribute, add_look, add_path, add_point, add_rect, begin_path, end_path,
-};
-pub use files::{LETTERING, add_lines, add_root, add_style};
-pub use labels::{Anchor, Label};
+pub use drawing::Shapes;
+pub use shapes::{Anchor, Area, Label, Look, Point, Shape, Way};
+pub use templates::words_of;
 pub use text::Text;

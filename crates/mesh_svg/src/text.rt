@@ -1,9 +1,15 @@
 //! The growing text of a picture.
-ghost use Rattle.std.specs.Prelude.{◌≡◌, ◌⊎◌, [], Some, None, decimal, IfOk, OnErr};
+ghost use Rattle.std.specs.Prelude.{◌≡◌, ◌++◌, [], Some, None, IfOk, IfSome, OnErr, codes};
 ghost use Rattle.std.specs.Option.{option_map};
-ghost use Rattle.mesh_svg.specs.Texts.{Adds, escaped, escaped_byte};
+ghost use Rattle.mesh_svg.specs.Begins.{Begins};
+ghost use Rattle.mesh_svg.specs.Files.{root_text, style_text};
+ghost use Rattle.mesh_svg.specs.Shapes.{Draws, shape_text, shapes_text};
+ghost use Rattle.mesh_svg.specs.Texts.{Adds};
 
-use itoa::Buffer;
+use crate::drawing::Shapes;
+use crate::files::{write_root, write_style};
+use crate::shapes::Shape;
+use crate::writer::{write_shape, write_shapes};
 use std::alloc::{AllocError, Global};
 use std::marker::Model;
 
@@ -47,6 +53,17 @@ impl Text {
         }
     }
 
+    /// Returns the whole text as a list of bytes. Returns an error if an allocation failed while the text grew.
+    pub fn finish(self) -> Result<Vec<u8>, AllocError>
+        ensures { IfOk result (λ bytes. self ≡ Some bytes.items) }
+    {
+        if self.refused {
+            Err(AllocError)
+        } else {
+            Ok(self.bytes)
+        }
+    }
+
     /// Returns the number of bytes in the text.
     pub fn len(&self) -> usize {
         self.bytes.len()
@@ -64,16 +81,11 @@ impl Text {
         *self.bytes.allocator()
     }
 
-    /// Returns an empty text with the same allocator.
-    pub fn empty(&self) -> Text
-        ensures { result ≡ Some [] }
+    /// Records that an allocation failed for what was to be appended.
+    pub fn refuse(&mut self)
+        ensures { self.new ≡ None }
     {
-        Text::new(self.alloc())
-    }
-
-    /// Returns the bytes in the text, even if an allocation failed.
-    pub fn bytes(&self) -> &[u8] {
-        self.bytes.as_slice()
+        self.refused = true;
     }
 
     /// Appends bytes.
@@ -85,42 +97,59 @@ impl Text {
         }
     }
 
-    /// Appends a number in decimal digits.
-    pub fn add_number(&mut self, number: u32)
-        ensures { Adds self.old self.new (decimal number) }
+    /// Appends the start of the root element, and a title for readers who don't see the picture. Sizes are in tenths of
+    /// a pixel.
+    pub fn add_root(&mut self, title: &[u8], width: u32, height: u32)
+        ensures text { Adds self.old self.new (root_text title.now width height) }
+        ensures begins { self.old ≡ Some [] → IfSome self.new (Begins (codes "<svg")) }
     {
-        let mut digits = Buffer::new();
-        self.add(digits.format(number).as_bytes());
+        self.add_root_text(title, width, height);
     }
 
-    /// Appends bytes, with the special characters of SVG escaped. A control byte is written as a question mark.
-    pub fn add_escaped(&mut self, words: &[u8])
-        ensures { Adds self.old self.new (escaped words.now) }
+    /// Appends the start of the root element, and a title.
+    fn add_root_text(&mut self, title: &[u8], width: u32, height: u32)
+        ensures { Adds self.old self.new (root_text title.now width height) }
     {
-        for byte in words {
-            self.add_escaped_byte(*byte);
+        if !self.refused {
+            self.refused = write_root(&mut self.bytes, title, width, height).is_err();
         }
     }
 
-    /// Appends one byte, escaped. A control byte is written as a question mark.
-    fn add_escaped_byte(&mut self, byte: u8)
-        ensures { Adds self.old self.new (escaped_byte byte) }
+    /// Appends the style: a default font, these rules, and these rules for a dark background. Each rule ends in a line
+    /// end.
+    pub fn add_style(&mut self, rules: &str, dark: &str)
+        ensures { Adds self.old self.new (style_text rules.now dark.now) }
     {
-        match byte {
-            b'&' => self.add(b"&amp;"),
-            b'<' => self.add(b"&lt;"),
-            b'>' => self.add(b"&gt;"),
-            b'"' => self.add(b"&quot;"),
-            0..=31 | 127 => self.add(b"?"),
-            _ => self.add(&[byte]),
+        if !self.refused {
+            self.refused = write_style(&mut self.bytes, rules, dark).is_err();
         }
     }
 
-    /// Records the allocation failure of another text whose bytes were appended, if that text has one.
-    pub fn share_refusal(&mut self, added: &Text)
-        ensures refused { added.now ≡ None → self.new ≡ None }
-        ensures kept { (self.new ≡ self.old) ⊎ (self.new ≡ None) }
+    /// Appends a shape.
+    pub fn add_shape(&mut self, shape: &Shape)
+        ensures { Adds self.old self.new (shape_text shape.now) }
     {
-        self.refused = self.refused || added.refused;
+        if !self.refused {
+            self.refused = write_shape(&mut self.bytes, shape).is_err();
+        }
+    }
+
+    /// Appends shapes, one after the other.
+    pub fn add_shapes(&mut self, shapes: &[Shape])
+        ensures { Adds self.old self.new (shapes_text shapes.now) }
+    {
+        if !self.refused {
+            self.refused = write_shapes(&mut self.bytes, shapes).is_err();
+        }
+    }
+
+    /// Appends the shapes of a list. If an allocation for the list failed, the text records the failure.
+    pub fn draw(&mut self, shapes: &Shapes)
+        ensures { Draws self.old self.new }
+    {
+        match shapes.whole() {
+            Ok(list) => self.add_shapes(list),
+            Err(_) => self.refuse(),
+        }
     }
 }

@@ -1,5 +1,5 @@
-//! SVG elements, written as text.
-use crate::text::Text;
+//! The shapes of a picture, as data.
+ghost use Rattle.std.specs.Prelude.{◌≡◌, None};
 
 /// A rectangle.
 #[derive(Clone, Copy)]
@@ -15,6 +15,11 @@ pub struct Area {
 }
 
 impl Area {
+    /// Returns the area with this upper left corner, width and height.
+    pub fn at(x: u32, y: u32, w: u32, h: u32) -> Area {
+        Area { x, y, w, h }
+    }
+
     /// Returns the area enlarged by `by` on each side.
     pub fn grown(self, by: u32) -> Area {
         Area {
@@ -50,14 +55,17 @@ impl Area {
 /// is empty if there is only one rule.
 #[derive(Clone, Copy)]
 pub struct Look {
-    name: &'static str,
-    number: Option<u32>,
-    also: &'static str,
+    pub name: &'static str,
+    pub number: Option<u32>,
+    pub also: &'static str,
 }
 
 impl Look {
     /// Returns the style of one rule.
-    pub fn of(name: &'static str) -> Look {
+    pub fn of(name: &'static str) -> Look
+        ensures name { result.name.now ≡ name.now }
+        ensures number { result.number ≡ None }
+    {
         Look {
             name,
             number: None,
@@ -80,70 +88,60 @@ impl Look {
     }
 }
 
-/// Adds the attribute ` name="number"`.
-pub fn add_attribute(text: &mut Text, name: &str, number: u32) {
-    text.add(b" ");
-    text.add(name.as_bytes());
-    text.add(b"=\"");
-    text.add_number(number);
-    text.add(b"\"");
+/// How a path reaches a point.
+#[derive(Clone, Copy)]
+pub enum Way {
+    /// The path moves to the point, and draws nothing.
+    Move,
+    /// The path draws a line to the point.
+    Line,
+    /// The point is the first of the three points of a curve.
+    Curve,
+    /// The point is the second or the third point of a curve.
+    Bend,
 }
 
-/// Adds the attribute ` class=".."` with the names of the rules.
-pub fn add_look(text: &mut Text, look: Look) {
-    text.add(b" class=\"");
-    text.add(look.name.as_bytes());
-    if let Some(number) = look.number {
-        text.add_number(number);
-    }
-    if !look.also.is_empty() {
-        text.add(b" ");
-        text.add(look.also.as_bytes());
-    }
-    text.add(b"\"");
+/// A point of a path.
+#[derive(Clone, Copy)]
+pub struct Point {
+    pub way: Way,
+    pub x: u32,
+    pub y: u32,
 }
 
-/// Adds a rectangle whose corners have the radius `round`.
-pub fn add_rect(text: &mut Text, look: Look, area: Area, round: u32) {
-    text.add(b"<rect");
-    add_look(text, look);
-    add_attribute(text, "x", area.x);
-    add_attribute(text, "y", area.y);
-    add_attribute(text, "width", area.w);
-    add_attribute(text, "height", area.h);
-    if round > 0 {
-        add_attribute(text, "rx", round);
-    }
-    text.add(b"/>\n");
+/// The point of a label's text that is at the label's place.
+#[derive(Clone, Copy)]
+pub enum Anchor {
+    /// The start of the text.
+    Start,
+    /// The middle of the text.
+    Middle,
+    /// The end of the text.
+    End,
 }
 
-/// Adds a path through points. Each point has the letter of its path command: `M` moves, `L` draws a line, and `C`
-/// begins a curve of three points.
-pub fn add_path(text: &mut Text, look: Look, points: &[(&'static str, u32, u32)]) {
-    begin_path(text, look);
-    for point in points {
-        add_point(text, point.0, point.1, point.2);
-    }
-    end_path(text);
+/// The place and the style of some text.
+#[derive(Clone, Copy)]
+pub struct Label {
+    /// The colour and the font of the text.
+    pub look: Look,
+    /// The point of the text that is at the place.
+    pub anchor: Anchor,
+    /// The horizontal position of the place, from the left.
+    pub x: u32,
+    /// The vertical position of the text's baseline, from the top.
+    pub y: u32,
+    /// The width of the text, or `None` for the natural width in the reader's font.
+    pub width: Option<u32>,
 }
 
-/// Begins a path.
-pub fn begin_path(text: &mut Text, look: Look) {
-    text.add(b"<path");
-    add_look(text, look);
-    text.add(b" d=\"");
-}
-
-/// Ends a path.
-pub fn end_path(text: &mut Text) {
-    text.add(b"\"/>\n");
-}
-
-/// Adds one point of a path.
-pub fn add_point(text: &mut Text, way: &str, x: u32, y: u32) {
-    text.add(way.as_bytes());
-    text.add_number(x);
-    text.add(b",");
-    text.add_number(y);
-    text.add(b" ");
+/// A shape of a picture.
+#[derive(Drop)]
+pub enum Shape {
+    /// A rectangle, and the radius of its corners.
+    Rect(Look, Area, u32),
+    /// A path through points.
+    Path(Look, Vec<Point>),
+    /// Text at a place. Any byte may be in the text, because the writer escapes it.
+    Words(Label, Vec<u8>),
 }
