@@ -12,11 +12,12 @@ use Rattle.mesh_fields.specs.Lines.{text_lines}
 use Rattle.mesh_fields.proofs.Splits.{Parts, some_part}
 use Rattle.mesh_devices.specs.declared.faults.ReplayError.{ReplayError}
 use Rattle.mesh_devices.specs.declared.faults.ReplayError.TheVariants.{Read, Write, Text, Memory}
-use Rattle.mesh_history.specs.Inputs.{HasCome, HasEnded, HasRead, HasStopped, IsFresh, lines_before, reading_left}
-use Rattle.mesh_history.specs.Readers.{next_line}
-use Rattle.mesh_history.specs.Readings.{Head, LineRead, OfEntry, Reading, end_fault, is_full, line_in, read_on, reading_from, reading_of, too_long, with_entries}
-use Rattle.mesh_history.specs.declared.inputs.HistoryInput.{HistoryInput}
-use Rattle.mesh_history.proofs.HistoryInputs.{none_come}
+use Rattle.history_reading.specs.EntryInputs.{HasCome, HasEnded, HasRead, HasStopped, IsFresh, lines_before, reading_left}
+use Rattle.history_reading.specs.Readers.{next_line}
+use Rattle.history_reading.specs.Readings.{Head, LineRead, OfEntry, Reading, line_in, read_on, reading_from, reading_of, with_entries}
+use Rattle.mesh_devices.specs.Ends.{end_fault, is_full, too_long}
+use Rattle.history_reading.specs.declared.entry_inputs.HistoryInput.{HistoryInput}
+use Rattle.history_reading.proofs.EntryInputs.{none_come}
 use Rattle.mesh_check.specs.Checks.{HasJudged, HasNotJudged}
 use Rattle.mesh_check.specs.Judged.{IsTaken, IsWrong}
 use Rattle.mesh_check.specs.Outcomes.{Faulty, IsJudged, IsVerdict, Legal, Outcome, Wrong, ended}

@@ -10,8 +10,8 @@ use Rattle.model_words.specs.declared.commands.Command.TheVariants.{New}
 use Rattle.model_words.specs.declared.commands.Reply.{Reply}
 use Rattle.model_words.specs.declared.commands.Reply.TheVariants.{Done, Refused}
 use Rattle.model_words.specs.declared.refusals.Refusal.{Refusal}
-use Rattle.mesh_history.specs.RecordedWords.{plain_reply}
-use Rattle.mesh_history.specs.declared.words.RecordedReply.{RecordedReply}
+use Rattle.text_words.specs.RecordedWords.{plain_reply}
+use Rattle.text_words.specs.declared.recorded.RecordedReply.{RecordedReply}
 use Rattle.mesh_check.specs.Judged.{IsAnswered, IsTold, IsWrong, is_new}
 use Rattle.mesh_check.specs.Reasons.{IsByte, IsDifference, IsOnly, Tells, is_refusal}
 use Rattle.mesh_check.specs.Stands.{IsDone, IsRefused, Stands, with_memory}

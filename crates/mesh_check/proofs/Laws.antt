@@ -13,8 +13,9 @@ use Rattle.model_words.specs.declared.faults.TextFault.{TextFault}
 use Rattle.mesh_fields.specs.KeptLines.{rest_fault}
 use Rattle.mesh_fields.specs.Lines.{text_lines}
 use Rattle.mesh_fields.proofs.Splits.{Parts}
-use Rattle.mesh_history.specs.HistoryFiles.{entry_in, head_in}
-use Rattle.mesh_history.specs.Readings.{Head, LineRead, OfEntry, is_full, line_in, too_long}
+use Rattle.history_reading.specs.HistoryFiles.{entry_in, head_in}
+use Rattle.history_reading.specs.Readings.{Head, LineRead, OfEntry, line_in}
+use Rattle.mesh_devices.specs.Ends.{is_full, too_long}
 use Rattle.mesh_check.specs.Outcomes.{Faulty, IsJudged, IsStopLine, IsTakenLine, IsVerdict, LeadsTo, Legal, Outcome, Wrong, end_of, ended}
 use Rattle.mesh_check.specs.VerdictLaws.{AreEntries, IsFirstWrong, IsHistory}
 

@@ -9,7 +9,7 @@ use Rattle.model_memory.specs.Plain.{Entry}
 use Rattle.model_words.specs.declared.commands.Command.{Command}
 use Rattle.model_words.specs.declared.commands.Reply.{Reply}
 use Rattle.model_words.specs.declared.commands.Reply.TheVariants.{Object as Made}
-use Rattle.mesh_history.specs.declared.words.RecordedReply.{RecordedReply}
+use Rattle.text_words.specs.declared.recorded.RecordedReply.{RecordedReply}
 use Rattle.mesh_check.specs.Judged.{IsTold, is_new}
 use Rattle.mesh_check.specs.Lines.{AreLined, IsMadeBy, IsSame, IsOfLive, MakesAtMost, MakesNone, HasLine}
 use Rattle.mesh_check.specs.Objects.{LiveObject, with_bytes}

@@ -5,8 +5,8 @@ use Rattle.model_memory.specs.Memory.{Memory}
 use Rattle.model_memory.specs.Plain.{Follows, plain}
 use Rattle.model_history.specs.Recorded.{Recorded}
 use Rattle.model_words.specs.declared.commands.Command.{Command}
-use Rattle.mesh_history.specs.RecordedWords.{plain_reply}
-use Rattle.mesh_history.specs.declared.words.RecordedReply.{RecordedReply}
+use Rattle.text_words.specs.RecordedWords.{plain_reply}
+use Rattle.text_words.specs.declared.recorded.RecordedReply.{RecordedReply}
 use Rattle.mesh_check.specs.Differences.{DifferNowhere, bytes_of}
 use Rattle.mesh_check.specs.Judged.{IsAnswered}
 use Rattle.mesh_check.specs.Reasons.{IsByte, is_load}

@@ -6,8 +6,8 @@ use Rattle.model_history.specs.Recorded.{Recorded, RecordedStep, any_allocator}
 use Rattle.model_words.specs.declared.commands.Command.{Command}
 use Rattle.model_words.specs.declared.commands.Command.TheVariants.{New}
 use Rattle.model_words.specs.declared.commands.Reply.{Reply}
-use Rattle.mesh_history.specs.declared.words.RecordedReply.{RecordedReply}
-use Rattle.mesh_history.specs.declared.words.RecordedReply.TheVariants.{Done, Refused}
+use Rattle.text_words.specs.declared.recorded.RecordedReply.{RecordedReply}
+use Rattle.text_words.specs.declared.recorded.RecordedReply.TheVariants.{Done, Refused}
 use Rattle.std.specs.declared.alloc.AllocError.{AllocError}
 use Rattle.mesh_check.specs.Stands.{Stands, with_memory}
 use Rattle.mesh_check.specs.declared.faults.CommandError.{CommandError}

@@ -5,7 +5,8 @@ use Rattle.model_history.specs.Recorded.{Recorded, RecordedStep, any_allocator, 
 use Rattle.model_words.specs.declared.faults.FaultKind.{FaultKind}
 use Rattle.model_words.specs.declared.faults.TextFault.{TextFault}
 use Rattle.mesh_fields.specs.Lines.{text_lines}
-use Rattle.mesh_history.specs.Readings.{Head, LineRead, OfEntry, end_fault, is_full, line_in, too_long}
+use Rattle.history_reading.specs.Readings.{Head, LineRead, OfEntry, line_in}
+use Rattle.mesh_devices.specs.Ends.{end_fault, is_full, too_long}
 use Rattle.mesh_check.specs.declared.verdicts.Verdict.{Verdict}
 use Rattle.mesh_check.specs.declared.verdicts.Verdict.TheVariants.{Legal as IsLegal, Wrong as IsWrong}
 

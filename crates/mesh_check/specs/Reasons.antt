@@ -7,9 +7,9 @@ use Rattle.model_words.specs.declared.commands.Command.TheVariants.{New, Get, Pe
 use Rattle.model_words.specs.declared.commands.Reply.{Reply}
 use Rattle.model_words.specs.declared.commands.Reply.TheVariants.{Object as Made, Refused}
 use Rattle.model_words.specs.declared.refusals.Refusal.TheVariants.{Zero}
-use Rattle.mesh_history.specs.RecordedWords.{plain_reply}
-use Rattle.mesh_history.specs.declared.words.RecordedReply.{RecordedReply}
-use Rattle.mesh_history.specs.declared.words.RecordedReply.TheVariants.{Refused as RecordedRefused}
+use Rattle.text_words.specs.RecordedWords.{plain_reply}
+use Rattle.text_words.specs.declared.recorded.RecordedReply.{RecordedReply}
+use Rattle.text_words.specs.declared.recorded.RecordedReply.TheVariants.{Refused as RecordedRefused}
 use Rattle.mesh_check.specs.Differences.{DifferAt, DifferNowhere, bytes_of}
 use Rattle.mesh_check.specs.Stands.{IsOverlapped, Stands}
 use Rattle.mesh_check.specs.declared.memory.Tracked.{Tracked}

@@ -3,7 +3,7 @@ use Rattle.std.specs.Prelude.{◌≡◌, ◌↔◌, ℕ, ◌+◌, ◌<◌, List,
 use Rattle.model_memory.specs.Plain.{Entry}
 use Rattle.model_history.specs.Recorded.{IsRecorded, Recorded, RecordedStep, any_allocator}
 use Rattle.mesh_fields.specs.Lines.{text_lines}
-use Rattle.mesh_history.specs.HistoryFiles.{entry_in, head_in}
+use Rattle.history_reading.specs.HistoryFiles.{entry_in, head_in}
 use Rattle.mesh_check.specs.Outcomes.{IsVerdict, Legal, Outcome, Wrong}
 
 -- the lines are read as these entries, one by one

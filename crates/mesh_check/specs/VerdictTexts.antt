@@ -1,9 +1,9 @@
 -- The text of a verdict. The wording is this project's own choice.
 use Rattle.std.specs.Prelude.{ℕ, List, [], ◌++◌, Option, Some, None, codes, decimal}
-use Rattle.model_jobs.specs.Texts.{ended, number_field, told_with}
-use Rattle.mesh_spelling.specs.Addresses.{wide_text}
-use Rattle.mesh_history.specs.RecordedWords.{plain_reply}
-use Rattle.mesh_history.specs.declared.words.RecordedReply.{RecordedReply}
+use Rattle.model_jobs.specs.Texts.{ended, number_field}
+use Rattle.text_words.specs.Addresses.{wide_text}
+use Rattle.text_words.specs.RecordedTexts.{recorded_text}
+use Rattle.text_words.specs.declared.recorded.RecordedReply.{RecordedReply}
 use Rattle.mesh_check.specs.declared.reasons.AddressRange.{AddressRange}
 use Rattle.mesh_check.specs.declared.reasons.DifferentByte.{DifferentByte}
 use Rattle.mesh_check.specs.declared.reasons.Overlap.{Overlap}
@@ -11,10 +11,6 @@ use Rattle.mesh_check.specs.declared.reasons.Reason.{Reason}
 use Rattle.mesh_check.specs.declared.reasons.Reason.TheVariants.{Differs, NoObject, LiveRefused, SerialAgain, Overlaps}
 use Rattle.mesh_check.specs.declared.verdicts.Verdict.{Verdict}
 use Rattle.mesh_check.specs.declared.verdicts.Verdict.TheVariants.{Legal, Wrong}
-
--- the text of an answer, in the form of a recorded history
-abbrev pub recorded_text : RecordedReply → List ℕ
-recorded_text reply = told_with wide_text (plain_reply reply)
 
 -- the text of an answer and of the wanted answer
 abbrev pub answers_text : RecordedReply → RecordedReply → List ℕ

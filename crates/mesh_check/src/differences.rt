@@ -1,12 +1,12 @@
 //! The difference between an answer and the expected one.
 ghost use Rattle.std.specs.Prelude.{◌≡◌, ◌≢◌, ◌↔◌, IfSome, IsTrue, IsNone, IsSome};
-ghost use Rattle.mesh_history.specs.RecordedWords.{plain_reply};
+ghost use Rattle.text_words.specs.RecordedWords.{plain_reply};
 ghost use Rattle.mesh_check.specs.Differences.{IsFirst, bytes_of};
 ghost use Rattle.mesh_check.specs.Reasons.{IsDifference, is_refusal};
 
 use crate::reasons::{Difference, DifferentByte, LiveRefusal, Reason};
 use arrayvec::ArrayVec;
-use mesh_history::RecordedReply;
+use history_reading::RecordedReply;
 use model_words::MAX_BYTES;
 use std::array;
 

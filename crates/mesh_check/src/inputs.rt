@@ -5,12 +5,12 @@ ghost use Rattle.mesh_check.specs.Checks.{HasJudged, HasNotJudged};
 ghost use Rattle.mesh_check.specs.Outcomes.{outcome_of};
 ghost use Rattle.mesh_check.specs.Stands.{Stands};
 ghost use Rattle.mesh_devices.specs.declared.faults.ReplayError.{ReplayError};
-ghost use Rattle.mesh_history.specs.Inputs.{IsFresh};
+ghost use Rattle.history_reading.specs.EntryInputs.{IsFresh};
 
 use crate::memory::Tracked;
 use crate::verdicts::Verdict;
+use history_reading::HistoryInput;
 use mesh_devices::{ReplayError, Source};
-use mesh_history::HistoryInput;
 use std::alloc::Global;
 
 /// Judges the recorded history that is read from `input`.

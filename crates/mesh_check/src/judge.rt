@@ -7,7 +7,7 @@ ghost use Rattle.model_words.specs.declared.commands.Command.{Command};
 ghost use Rattle.model_words.specs.declared.commands.Reply.{Reply};
 ghost use Rattle.model_history.specs.Recorded.{IsOwnRefusal, Recorded, any_allocator};
 ghost use Rattle.mesh_fields.specs.Commands.{plain_command};
-ghost use Rattle.mesh_history.specs.RecordedWords.{IsNarrow, IsSized, plain_entry, plain_reply};
+ghost use Rattle.text_words.specs.RecordedWords.{IsNarrow, IsSized, plain_entry, plain_reply};
 ghost use Rattle.mesh_check.specs.Differences.{bytes_of};
 ghost use Rattle.mesh_check.specs.Judged.{IsAnswered, IsTaken, IsTold, IsWrong, is_new};
 ghost use Rattle.mesh_check.specs.Lines.{AreLined, MakesAtMost, MakesNone, HasLine};
@@ -20,7 +20,7 @@ use crate::memory::Tracked;
 use crate::reasons::{Difference, DifferentByte, Reason};
 use crate::stored::Stored;
 use arrayvec::ArrayVec;
-use mesh_history::{RecordedEntry, RecordedReply, SpeltCommand};
+use history_reading::{RecordedEntry, RecordedReply, SpeltCommand};
 use model_words::{MAX_BYTES, Refusal};
 use std::alloc::AllocError;
 

@@ -34,5 +34,5 @@ mod verdicts;
 pub use inputs::check;
 pub use memory::Tracked;
 pub use reasons::{AddressRange, Difference, DifferentByte, LiveRefusal, Overlap, Reason};
-pub use texts::{add_recorded, verdict_line};
+pub use texts::verdict_line;
 pub use verdicts::Verdict;

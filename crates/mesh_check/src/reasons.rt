@@ -1,5 +1,5 @@
 //! The reasons for which an entry is rejected.
-use mesh_history::RecordedReply;
+use history_reading::RecordedReply;
 
 /// The reason why the reference memory rejects an entry.
 #[derive(Clone, Drop, PartialEq, Eq)]

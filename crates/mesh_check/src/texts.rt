@@ -1,12 +1,13 @@
 //! The line of a verdict.
 ghost use Rattle.std.specs.Prelude.{◌≡◌, ◌++◌, IfOk, OnOk};
-ghost use Rattle.mesh_check.specs.VerdictTexts.{answers_text, byte_text, found_text, overlapped_text, range_text, ranges_text, reason_text, recorded_text, store_text, verdict_text};
+ghost use Rattle.mesh_check.specs.VerdictTexts.{answers_text, byte_text, found_text, overlapped_text, range_text, ranges_text, reason_text, store_text, verdict_text};
+ghost use Rattle.text_words.specs.RecordedTexts.{recorded_text};
 
 use crate::reasons::{AddressRange, DifferentByte, Overlap, Reason};
 use crate::verdicts::Verdict;
-use mesh_history::RecordedReply;
-use mesh_spelling::{add_address, add_bytes, add_decimal, add_refusal};
+use history_reading::RecordedReply;
 use std::alloc::{AllocError, Global};
+use text_words::{add_address, add_decimal, add_recorded};
 
 /// The line of a verdict, with a line end: `legal N entries`, or `line L: REASON`. The only error is an allocation
 /// failure.
@@ -133,32 +134,4 @@ fn add_range(text: &mut Vec<u8>, range: AddressRange) -> Result<(), AllocError>
     add_address(text, range.from)?;
     text.extend_from_slice(b"..")?;
     add_address(text, range.to)
-}
-
-/// Appends an answer in the format of a recorded history. The only error is an allocation failure.
-pub fn add_recorded(text: &mut Vec<u8>, reply: &RecordedReply) -> Result<(), AllocError>
-    ensures { OnOk result (text.new.items ≡ text.old.items ++ recorded_text reply.now) }
-{
-    match reply {
-        RecordedReply::Object(serial, address) => {
-            text.extend_from_slice(b"object ")?;
-            add_decimal(text, u64::from(*serial))?;
-            text.extend_from_slice(b" at ")?;
-            add_address(text, *address)
-        }
-        RecordedReply::Done => text.extend_from_slice(b"done"),
-        RecordedReply::Bytes(bytes) => {
-            text.extend_from_slice(b"bytes ")?;
-            add_bytes(text, bytes.as_slice())
-        }
-        RecordedReply::At(address) => {
-            text.extend_from_slice(b"at ")?;
-            add_address(text, *address)
-        }
-        RecordedReply::Byte(byte) => {
-            text.extend_from_slice(b"byte ")?;
-            add_bytes(text, &[*byte])
-        }
-        RecordedReply::Refused(refusal) => add_refusal(text, *refusal),
-    }
 }

@@ -1,6 +1,6 @@
 -- Why a replay stops.
-use Rattle.mesh_job.specs.declared.faults.ReadFault.{ReadFault}
-use Rattle.mesh_job.specs.declared.faults.ReadFault.TheVariants.{Text as ReadText, Memory as ReadMemory}
+use Rattle.mesh_fields.specs.declared.faults.ReadFault.{ReadFault}
+use Rattle.mesh_fields.specs.declared.faults.ReadFault.TheVariants.{Text as ReadText, Memory as ReadMemory}
 use Rattle.mesh_devices.specs.declared.faults.ReplayError.{ReplayError}
 use Rattle.mesh_devices.specs.declared.faults.ReplayError.TheVariants.{Text, Memory}
 

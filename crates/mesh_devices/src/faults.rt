@@ -3,7 +3,7 @@ ghost use Rattle.std.specs.Prelude.{◌≡◌};
 ghost use Rattle.mesh_devices.specs.Faults.{replay_error_of};
 ghost use Rattle.mesh_devices.specs.declared.faults.ReplayError.{ReplayError};
 
-use mesh_job::ReadFault;
+use mesh_fields::faults::ReadFault;
 use model_words::TextFault;
 use std::alloc::AllocError;
 use thiserror::Error;

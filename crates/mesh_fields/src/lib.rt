@@ -8,6 +8,7 @@
 
 pub mod bases;
 pub mod commands;
+pub mod faults;
 pub mod hex;
 pub mod lines;
 pub mod numbers;

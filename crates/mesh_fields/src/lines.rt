@@ -157,7 +157,18 @@ pub fn fields_of(line: &[u8]) -> Result<Fields<'_>, FaultKind>
     ensures err { OnErr result
         ((list_any is_empty (line_fields line.now) ≡ true) ⊎ (35 < length (line_fields line.now))) }
 {
-    let mut fields = Fields::new();
+    fields_up_to::<MAX_FIELDS>(line)
+}
+
+/// Does the same as `fields_of`, for a line of at most `MOST` fields.
+pub fn fields_up_to<const MOST: usize>(line: &[u8]) -> Result<ArrayVec<&[u8], MOST>, FaultKind>
+    ensures fields { IfOk result (λ fields. texts fields.items ≡ line_fields line.now) }
+    ensures filled { OnOk result (list_any is_empty (line_fields line.now) ≡ false) }
+    ensures kind { IfErr result (λ kind. kind ≡ FaultKind.Word) }
+    ensures err { OnErr result
+        ((list_any is_empty (line_fields line.now) ≡ true) ⊎ (MOST < length (line_fields line.now))) }
+{
+    let mut fields = ArrayVec::new();
     let mut rest = line;
     while let Some((field, behind)) = cut(rest, b' ') {
         add_field(&mut fields, field)?;

@@ -1,9 +1,8 @@
-//! The errors of reading a line or a file.
+//! `LineError`, the reason for which a line could not be read.
 ghost use Rattle.std.specs.Prelude.{◌≡◌};
 ghost use Rattle.mesh_job.specs.declared.faults.LineError.{LineError};
-ghost use Rattle.mesh_job.specs.declared.faults.ReadFault.{ReadFault};
 
-use model_words::{FaultKind, TextFault};
+use model_words::FaultKind;
 use std::alloc::AllocError;
 use thiserror::Error;
 
@@ -14,17 +13,6 @@ pub enum LineError {
     #[error("{0}")]
     Kind(FaultKind),
     /// A memory allocation for the result failed.
-    #[error("out of memory")]
-    Memory,
-}
-
-/// The reason for which a job file could not be read.
-#[derive(Clone, Copy, Debug, PartialEq, Eq, Error)]
-pub enum ReadFault {
-    /// The first fault of the text.
-    #[error("{0}")]
-    Text(TextFault),
-    /// A memory allocation for the job failed.
     #[error("out of memory")]
     Memory,
 }
@@ -42,13 +30,5 @@ impl From<AllocError> for LineError {
 
     fn from(_refused: AllocError) -> LineError {
         LineError::Memory
-    }
-}
-
-impl From<AllocError> for ReadFault {
-    ghost from_gives = { λ _ fault. fault ≡ ReadFault.Memory };
-
-    fn from(_refused: AllocError) -> ReadFault {
-        ReadFault::Memory
     }
 }

@@ -25,8 +25,9 @@ mod script;
 
 pub use command_list::Commands;
 pub use commands::command_of;
-pub use faults::{LineError, ReadFault};
+pub use faults::LineError;
 pub use job::{Job, Scripts};
+pub use mesh_fields::faults::ReadFault;
 pub use model_words::{Command, FaultKind, TextFault, Version};
 pub use plan::{Plan, PlanLine, Search};
 pub use plan_lines::plan_line;

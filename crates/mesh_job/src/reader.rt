@@ -6,7 +6,8 @@ ghost use Rattle.mesh_job.specs.Faults.{IsReadFault};
 ghost use Rattle.mesh_job.specs.Taken.{HasTaken, IsLeft, IsReadTo, IsReading, bytes_taken, is_over};
 
 use crate::draft::Draft;
-use crate::{Job, LineError, ReadFault};
+use crate::{Job, LineError};
+use mesh_fields::faults::ReadFault;
 use model_words::{FaultKind, TextFault};
 use std::alloc::{AllocError, Global};
 

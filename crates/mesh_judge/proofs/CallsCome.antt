@@ -5,11 +5,11 @@ use Rattle.std.specs.List.{All}
 use Rattle.std.proofs.lemmas.List.{map-append}
 use Rattle.std.proofs.lemmas.List.Elements.{All-append, All-cons, All-nil}
 use Rattle.model_intervals.specs.Intervals.{Call}
-use Rattle.mesh_calls.proofs.CallInputs.{no_call_came}
-use Rattle.mesh_calls.specs.CallInputs.{HasCome, HasEnded, HasNext, IsFresh}
-use Rattle.mesh_calls.specs.CallWords.{IsReadCall, plain_call}
-use Rattle.mesh_calls.specs.declared.inputs.CallInput.{CallInput}
-use Rattle.mesh_calls.specs.declared.words.TimedCall.{TimedCall}
+use Rattle.history_reading.proofs.CallInputs.{no_call_came}
+use Rattle.history_reading.specs.CallInputs.{HasCome, HasEnded, HasNext, IsFresh}
+use Rattle.history_reading.specs.CallWords.{IsReadCall, plain_call}
+use Rattle.history_reading.specs.declared.call_inputs.CallInput.{CallInput}
+use Rattle.history_reading.specs.declared.words.TimedCall.{TimedCall}
 use Rattle.mesh_judge.specs.OrderedHistories.{HaveCome, HaveComeSoFar}
 
 pub none_came : (history : CallInput) (left : Option (List ℕ)) (calls : List TimedCall) → calls ≡ [] → IsFresh history → HaveComeSoFar history left left calls

@@ -4,9 +4,9 @@ use Rattle.std.specs.List.{flat_map}
 use Rattle.arrayvec.specs.ArrayVec.{ArrayVec}
 use Rattle.model_jobs.specs.Texts.{bytes_text, number_field}
 use Rattle.model_words.specs.declared.refusals.Refusal.TheVariants.{Zero}
-use Rattle.mesh_history.specs.declared.words.RecordedReply.{RecordedReply}
-use Rattle.mesh_history.specs.declared.words.RecordedReply.TheVariants.{Refused}
-use Rattle.mesh_check.specs.VerdictTexts.{recorded_text}
+use Rattle.text_words.specs.declared.recorded.RecordedReply.{RecordedReply}
+use Rattle.text_words.specs.declared.recorded.RecordedReply.TheVariants.{Refused}
+use Rattle.text_words.specs.RecordedTexts.{recorded_text}
 use Rattle.mesh_linearizability.specs.declared.flaws.Flaw.{Flaw}
 use Rattle.mesh_linearizability.specs.declared.flaws.Flaw.TheVariants.{Outside, CellAgain, SerialAgain, NoByte, StrangeRefusal, Overlaps, NoOrder}
 use Rattle.mesh_linearizability.specs.declared.flaws.OutsideLife.TheVariants.{NotAfterNew, NotBeforeFree}

@@ -3,8 +3,8 @@ use Rattle.std.specs.Prelude.{◌⊎◌, ℕ, List, Option, codes}
 use Rattle.std.specs.Io.KnownBytes.{prepend_known}
 use Rattle.model_jobs.specs.Texts.{ended}
 use Rattle.mesh_judge.specs.Beginnings.{StartsOtherwise, StartsWith}
-use Rattle.mesh_calls.specs.declared.faults.CallError.{CallError}
-use Rattle.mesh_calls.specs.declared.faults.CallError.TheVariants.{Text, Order, Read, Memory}
+use Rattle.history_reading.specs.declared.faults.CallError.{CallError}
+use Rattle.history_reading.specs.declared.faults.CallError.TheVariants.{Text, Order, Read, Memory}
 use Rattle.mesh_check.specs.Checks.{HasJudged as HasJudgedInOrder}
 use Rattle.mesh_check.specs.Outcomes.{Faulty, outcome_of}
 use Rattle.mesh_linearizability.specs.Checks.{HasJudged as HasJudgedOverlapping, HasNotJudged as HasNotJudgedOverlapping}

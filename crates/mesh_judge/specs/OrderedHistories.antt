@@ -3,11 +3,11 @@ use Rattle.std.specs.Prelude.{◌≡◌, ℕ, List, Option, None, map}
 use Rattle.std.specs.Io.KnownBytes.{Consumes, IsAtEnd}
 use Rattle.std.specs.List.{All}
 use Rattle.model_intervals.specs.Intervals.{Call, Explains}
-use Rattle.mesh_calls.specs.CallInputs.{HasCome}
-use Rattle.mesh_calls.specs.CallReadings.{calls_of}
-use Rattle.mesh_calls.specs.CallWords.{IsReadCall, plain_call}
-use Rattle.mesh_calls.specs.declared.inputs.CallInput.{CallInput}
-use Rattle.mesh_calls.specs.declared.words.TimedCall.{TimedCall}
+use Rattle.history_reading.specs.CallInputs.{HasCome}
+use Rattle.history_reading.specs.CallReadings.{calls_of}
+use Rattle.history_reading.specs.CallWords.{IsReadCall, plain_call}
+use Rattle.history_reading.specs.declared.call_inputs.CallInput.{CallInput}
+use Rattle.history_reading.specs.declared.words.TimedCall.{TimedCall}
 use Rattle.mesh_linearization.specs.OrderTexts.{ordered_text}
 
 -- the text has no fault, and these are its calls, each in its ranges

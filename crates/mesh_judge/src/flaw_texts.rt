@@ -4,12 +4,11 @@ ghost use Rattle.std.specs.List.{flat_map};
 ghost use Rattle.mesh_judge.specs.FlawTexts.{flaw_text, later_text, least_text, load_text, loads_text, possible_text, unexplained_text};
 
 use arrayvec::ArrayVec;
-use mesh_check::add_recorded;
-use mesh_history::RecordedReply;
+use history_reading::RecordedReply;
 use mesh_linearizability::{Flaw, Loads, OutsideLife, Possible, Unexplained};
-use mesh_spelling::{add_bytes, add_decimal};
 use model_words::{MAX_BYTES, Refusal};
 use std::alloc::AllocError;
+use text_words::{add_bytes, add_decimal, add_recorded};
 
 /// Appends the reason why no order of effects explains a history. The only error of each function in this file is an
 /// allocation failure.

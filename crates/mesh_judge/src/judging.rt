@@ -1,10 +1,10 @@
 //! The judgement of a history of either kind.
 ghost use Rattle.std.specs.Prelude.{◌≡◌, Err, IfErr, IfOk, OnOk, false, true};
-ghost use Rattle.mesh_calls.specs.declared.faults.CallError.{CallError};
+ghost use Rattle.history_reading.specs.declared.faults.CallError.{CallError};
 ghost use Rattle.mesh_judge.specs.Judgements.{HasJudged, HasNotJudged, left_of};
 
 use crate::begun::Begun;
-use mesh_calls::CallError;
+use history_reading::CallError;
 use mesh_check::{Verdict, check};
 use mesh_devices::Source;
 use mesh_linearizability::{CallVerdict, check_calls};

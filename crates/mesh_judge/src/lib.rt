@@ -12,8 +12,8 @@ mod ordered;
 mod texts;
 
 pub use begun::Begun;
+pub use history_reading::CallError;
 pub use judging::{Judgement, judge};
-pub use mesh_calls::CallError;
 pub use mesh_check::Verdict;
 pub use mesh_linearizability::CallVerdict;
 pub use ordered::ordered_history;

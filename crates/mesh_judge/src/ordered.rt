@@ -1,9 +1,9 @@
 //! An order of effects that explains calls that overlap.
 ghost use Rattle.std.specs.Prelude.{◌≡◌, ◌++◌, ◌∷◌, [], false, IfOk, IfSome, OnOk};
-ghost use Rattle.mesh_calls.specs.CallInputs.{IsFresh};
+ghost use Rattle.history_reading.specs.CallInputs.{IsFresh};
 ghost use Rattle.mesh_judge.specs.OrderedHistories.{AreCallsOf, HaveCome, IsOrderedHistory};
 
-use mesh_calls::{CallError, CallInput, TimedCall};
+use history_reading::{CallError, CallInput, TimedCall};
 use mesh_devices::{Input, Source};
 use mesh_linearizability::{CallVerdict, check_calls};
 use mesh_linearization::{history_in_order, linearize};

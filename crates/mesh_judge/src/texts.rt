@@ -7,8 +7,8 @@ use crate::judging::Judgement;
 use mesh_check::verdict_line;
 use mesh_configurations::JudgeFault;
 use mesh_linearizability::CallVerdict;
-use mesh_spelling::add_decimal;
 use std::alloc::{AllocError, Global};
+use text_words::add_decimal;
 
 /// Returns the line of a judgement, with its line end. `most` is the limit on configurations that was passed to
 /// `judge`. The only error is an allocation failure.

@@ -14,14 +14,14 @@ use Rattle.model_intervals.proofs.OneOrder.{linearizable}
 use Rattle.model_history.specs.Recorded.{many_cells}
 use Rattle.model_words.specs.declared.faults.FaultKind.{FaultKind}
 use Rattle.mesh_fields.proofs.Splits.{some_part}
-use Rattle.mesh_history.specs.Readings.{is_full, too_long}
-use Rattle.mesh_line_input.specs.LineInputs.{unread_of}
-use Rattle.mesh_calls.specs.CallFiles.{call_head_in, call_in}
-use Rattle.mesh_calls.specs.CallInputs.{HasCome, HasStopped}
-use Rattle.mesh_calls.specs.CallReadings.{CallFault, CallLine, CallReading, Head, OfCall, OfText, OutOfOrder, calls_from, calls_of, call_line, head_line, is_in_order, next_in, read_on}
-use Rattle.mesh_calls.specs.declared.faults.CallError.{CallError}
-use Rattle.mesh_calls.specs.declared.faults.CallError.TheVariants.{Text, Order, Read, Memory}
-use Rattle.mesh_calls.specs.declared.inputs.CallInput.{CallInput}
+use Rattle.mesh_devices.specs.Ends.{is_full, too_long}
+use Rattle.mesh_devices.specs.LineInputs.{unread_of}
+use Rattle.history_reading.specs.CallFiles.{call_head_in, call_in}
+use Rattle.history_reading.specs.CallInputs.{HasCome, HasStopped}
+use Rattle.history_reading.specs.CallReadings.{CallFault, CallLine, CallReading, Head, OfCall, OfText, OutOfOrder, calls_from, calls_of, call_line, head_line, is_in_order, next_in, read_on}
+use Rattle.history_reading.specs.declared.faults.CallError.{CallError}
+use Rattle.history_reading.specs.declared.faults.CallError.TheVariants.{Text, Order, Read, Memory}
+use Rattle.history_reading.specs.declared.call_inputs.CallInput.{CallInput}
 use Rattle.mesh_linearizability.specs.Checks.{HasJudged, HasNotJudged, IsKept, IsTold, IsUnexplainedText}
 use Rattle.mesh_linearizability.specs.Ends.{AreEnded, IsRuledOut, NoneBefore, Past}
 use Rattle.mesh_linearizability.specs.Lives.{BeginFrom, CannotBe}

@@ -3,11 +3,11 @@ use Rattle.std.specs.Prelude.{◌≡◌, ◌⊎◌, ℕ, ◌^◌, ◌<◌, ◌�
 use Rattle.std.specs.Io.KnownBytes.{Consumes, IsAtEnd}
 use Rattle.model_intervals.specs.Intervals.{Call, IsLinearizable}
 use Rattle.model_intervals.specs.OverlappingCalls.{IsAt, IsHistory}
-use Rattle.mesh_calls.specs.CallInputs.{HasCome, HasRead}
-use Rattle.mesh_calls.specs.CallReadings.{OfText, OutOfOrder, calls_of}
-use Rattle.mesh_calls.specs.declared.faults.CallError.{CallError}
-use Rattle.mesh_calls.specs.declared.faults.CallError.TheVariants.{Text, Order, Read, Memory}
-use Rattle.mesh_calls.specs.declared.inputs.CallInput.{CallInput}
+use Rattle.history_reading.specs.CallInputs.{HasCome, HasRead}
+use Rattle.history_reading.specs.CallReadings.{OfText, OutOfOrder, calls_of}
+use Rattle.history_reading.specs.declared.faults.CallError.{CallError}
+use Rattle.history_reading.specs.declared.faults.CallError.TheVariants.{Text, Order, Read, Memory}
+use Rattle.history_reading.specs.declared.call_inputs.CallInput.{CallInput}
 use Rattle.mesh_linearizability.specs.Ends.{Past}
 use Rattle.mesh_linearizability.specs.Standing.{Stands, lives_of, waits_of}
 use Rattle.mesh_linearizability.specs.Timelines.{FewOpen}

@@ -1,6 +1,6 @@
 //! `Flaw`: the reason why no order of effect explains a history.
 use crate::possible::Unexplained;
-use mesh_history::RecordedReply;
+use history_reading::RecordedReply;
 use model_words::Refusal;
 
 /// The reason why no order of effect explains a history.

@@ -2,8 +2,8 @@
 ghost use Rattle.std.specs.Prelude.{◌≤◌, length};
 
 use arrayvec::ArrayVec;
+use history_reading::RecordedReply;
 use mesh_configurations::{Configuration, Refutation};
-use mesh_history::RecordedReply;
 use mesh_object_bytes::{Access, ObjectAccesses, ObjectBytes};
 use mesh_pool::Pool;
 use model_words::{MAX_BYTES, Refusal};

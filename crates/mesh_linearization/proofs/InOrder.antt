@@ -10,8 +10,8 @@ use Rattle.std.proofs.lemmas.List.Sorted.{All-permutation, IsPermutation-map, Is
 use Rattle.std.proofs.lemmas.Option.{slice_get-get_or, slice_get_read}
 use Rattle.model_history.specs.Recorded.{IsRecorded, any_allocator}
 use Rattle.model_intervals.specs.Intervals.{Call, Explains, RespectsTime}
-use Rattle.mesh_calls.specs.CallWords.{plain_call}
-use Rattle.mesh_calls.specs.declared.words.TimedCall.{TimedCall}
+use Rattle.history_reading.specs.CallWords.{plain_call}
+use Rattle.history_reading.specs.declared.words.TimedCall.{TimedCall}
 use Rattle.mesh_linearization.specs.Orders.{IsLegalOrder, at_places, calls_in_order}
 
 -- one more place

@@ -3,7 +3,7 @@ use Rattle.std.proofs.Common.{◌≡◌, ◌∙◌, ℕ, List, [], ◌∷◌, �
 use Rattle.std.specs.List.{flat_map}
 use Rattle.std.proofs.lemmas.List.Concat.{flat_map-append}
 use Rattle.model_intervals.specs.Intervals.{Call}
-use Rattle.mesh_spelling.specs.Recordings.{recorded_head}
+use Rattle.text_words.specs.RecordedTexts.{recorded_head}
 use Rattle.mesh_linearization.specs.OrderTexts.{entry_line, ordered_text}
 
 -- the line of a call

@@ -2,21 +2,10 @@
 use Rattle.std.specs.Prelude.{ℕ, List, ◌++◌, codes, decimal}
 use Rattle.std.specs.List.{flat_map}
 use Rattle.model_memory.specs.Plain.{Entry}
-use Rattle.model_words.specs.declared.commands.Command.{Command}
-use Rattle.model_words.specs.declared.commands.Command.TheVariants.{New, Put, Get, Free, Addr}
 use Rattle.model_intervals.specs.Intervals.{Call}
 use Rattle.model_jobs.specs.Texts.{command_text, ended, field, told_with}
-use Rattle.mesh_spelling.specs.Addresses.{wide_text}
-use Rattle.mesh_spelling.specs.Recordings.{recorded_head}
-
--- the command names one object by its cell
-abbrev pub NamesObject : Command → Type 0
-NamesObject (New cell len word) = Unit {0}
-NamesObject (Put cell off bytes) = Unit {0}
-NamesObject (Get cell off len) = Unit {0}
-NamesObject (Free cell) = Unit {0}
-NamesObject (Addr cell) = Unit {0}
-NamesObject command = ⊥
+use Rattle.text_words.specs.Addresses.{wide_text}
+use Rattle.text_words.specs.RecordedTexts.{recorded_head}
 
 -- the line of an entry, with its end: the worker, its command, and the answer, whose addresses may have up to 64 bits
 abbrev pub entry_line : Entry → List ℕ

@@ -3,8 +3,8 @@ use Rattle.std.specs.Prelude.{ℕ, List, map, slice_get}
 use Rattle.std.specs.List.{filter_map}
 use Rattle.model_history.specs.Recorded.{IsRecorded, Recorded, any_allocator}
 use Rattle.model_intervals.specs.Intervals.{Call, RespectsTime}
-use Rattle.mesh_calls.specs.CallWords.{plain_call}
-use Rattle.mesh_calls.specs.declared.words.TimedCall.{TimedCall}
+use Rattle.history_reading.specs.CallWords.{plain_call}
+use Rattle.history_reading.specs.declared.words.TimedCall.{TimedCall}
 
 -- the items of a list at these places, in the order of the places; a place past the end is skipped
 abbrev pub at_places : {X : Type 0} → List X → List ℕ → List X

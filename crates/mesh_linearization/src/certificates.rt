@@ -1,10 +1,10 @@
 //! The check that an order of effects explains calls.
 ghost use Rattle.std.specs.Prelude.{◌≡◌, ◌<◌, ◌-◌, ◌^◌, IfOk, length, true};
 ghost use Rattle.std.specs.List.{All};
-ghost use Rattle.mesh_calls.specs.CallWords.{IsReadCall};
+ghost use Rattle.history_reading.specs.CallWords.{IsReadCall};
 ghost use Rattle.mesh_linearization.specs.Orders.{IsLegalOrder, calls_in_order};
 
-use mesh_calls::TimedCall;
+use history_reading::TimedCall;
 use mesh_check::Tracked;
 use std::alloc::{AllocError, Global};
 

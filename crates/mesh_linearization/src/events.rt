@@ -1,5 +1,5 @@
 //! The starts and ends of calls in time.
-use mesh_calls::TimedCall;
+use history_reading::TimedCall;
 use std::alloc::{AllocError, Global};
 
 /// The kind of an event. At one moment, a start comes before an end.

@@ -4,8 +4,7 @@ ghost use Rattle.std.specs.List.{range_with_len};
 ghost use Rattle.std.specs.List.Sorted.{IsPermutation};
 
 use crate::points::Point;
-use mesh_calls::TimedCall;
-use mesh_history::SpeltCommand;
+use history_reading::{SpeltCommand, TimedCall};
 use std::alloc::{AllocError, Global};
 
 /// The order of calls at one moment. A `free` comes before a `new`, so that a range is freed before it is used again.

@@ -9,11 +9,10 @@
 //! - `kept` and `search` find an order of effects of one object's accesses.
 //! - `points` gives each call a moment of effect, and `keys` sorts the calls by these moments.
 //! - `certificates` checks the order, and `orders` runs all these parts.
-//! - `commands` and `texts` write the lines.
+//! - `texts` writes the lines.
 #![tactic(auto)]
 
 mod certificates;
-mod commands;
 mod events;
 mod kept;
 mod keys;

@@ -1,8 +1,7 @@
 //! The objects of a history, each with the calls that access it.
 ghost use Rattle.std.specs.Prelude.{◌<◌, ◌^◌, length};
 
-use mesh_calls::TimedCall;
-use mesh_history::{RecordedEntry, RecordedReply, SpeltCommand};
+use history_reading::{RecordedEntry, RecordedReply, SpeltCommand, TimedCall};
 use std::alloc::{AllocError, Global};
 use std::collections::BTreeMap;
 

@@ -2,13 +2,13 @@
 ghost use Rattle.std.specs.Prelude.{◌<◌, ◌-◌, ◌^◌, IfOk, IfSome, length, map};
 ghost use Rattle.std.specs.List.{All};
 ghost use Rattle.model_intervals.specs.Intervals.{Explains};
-ghost use Rattle.mesh_calls.specs.CallWords.{IsReadCall, plain_call};
+ghost use Rattle.history_reading.specs.CallWords.{IsReadCall, plain_call};
 ghost use Rattle.mesh_linearization.specs.Orders.{calls_in_order};
 
 use crate::certificates::is_legal_order;
 use crate::keys::order_by;
 use crate::points::points_of;
-use mesh_calls::TimedCall;
+use history_reading::TimedCall;
 use std::alloc::{AllocError, Global};
 
 /// Finds an order of effects that explains calls. Returns the numbers of the calls, which are their places in `calls`,

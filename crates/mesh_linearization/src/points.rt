@@ -3,8 +3,7 @@ ghost use Rattle.std.specs.Prelude.{◌<◌, ◌^◌, length};
 
 use crate::objects::objects_of;
 use crate::search::order_of;
-use mesh_calls::TimedCall;
-use mesh_history::SpeltCommand;
+use history_reading::{SpeltCommand, TimedCall};
 use std::alloc::{AllocError, Global};
 
 /// The moment of a call's effect, and its place among the accesses of its object.

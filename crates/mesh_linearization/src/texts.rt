@@ -1,18 +1,16 @@
 //! Calls in an order, as the text of a recorded history.
 ghost use Rattle.std.specs.Prelude.{◌≡◌, ◌<◌, ◌++◌, IfOk, OnOk, length};
 ghost use Rattle.std.specs.List.{All};
-ghost use Rattle.mesh_calls.specs.CallWords.{IsReadCall};
-ghost use Rattle.mesh_history.specs.RecordedWords.{plain_entry};
+ghost use Rattle.history_reading.specs.CallWords.{IsReadCall};
+ghost use Rattle.text_words.specs.RecordedWords.{plain_entry};
 ghost use Rattle.mesh_fields.specs.Commands.{plain_command};
-ghost use Rattle.mesh_linearization.specs.OrderTexts.{NamesObject, entry_line, ordered_text};
+ghost use Rattle.mesh_linearization.specs.OrderTexts.{entry_line, ordered_text};
+ghost use Rattle.text_words.specs.CommandTexts.{NamesObject};
 ghost use Rattle.mesh_linearization.specs.Orders.{calls_in_order};
 
-use crate::commands::add_call_command;
-use mesh_calls::TimedCall;
-use mesh_check::add_recorded;
-use mesh_history::RecordedEntry;
-use mesh_spelling::add_decimal;
+use history_reading::{RecordedEntry, TimedCall};
 use std::alloc::{AllocError, Global};
+use text_words::{add_decimal, add_object_command, add_recorded};
 
 /// Returns the history of the calls in the order of these numbers. The text has the line `history 1`, and then the line
 /// `W COMMAND -> ANSWER` of each call. Each line has its end. The only error is an allocation failure.
@@ -41,7 +39,7 @@ fn add_entry(text: &mut Vec<u8>, entry: &RecordedEntry) -> Result<(), AllocError
 {
     add_decimal(text, u64::from(entry.worker))?;
     text.extend_from_slice(b" ")?;
-    add_call_command(text, &entry.command)?;
+    add_object_command(text, &entry.command)?;
     text.extend_from_slice(b" -> ")?;
     add_recorded(text, &entry.reply)?;
     text.extend_from_slice(b"\n")

@@ -2,8 +2,8 @@
 use Rattle.std.specs.Prelude.{◌≡◌, ◌<◌, ◌≤◌, ◌⊎◌, ℕ, Bool, List, ◌++◌, Option, codes}
 use Rattle.std.specs.Io.KnownBytes.{Appends, Keeps}
 use Rattle.model_jobs.specs.Texts.{number_field}
-use Rattle.mesh_calls.specs.declared.faults.CallError.{CallError}
-use Rattle.mesh_calls.specs.declared.faults.CallError.TheVariants.{Text as CallText, Order as CallOrder, Read as CallRead, Memory as CallMemory}
+use Rattle.history_reading.specs.declared.faults.CallError.{CallError}
+use Rattle.history_reading.specs.declared.faults.CallError.TheVariants.{Text as CallText, Order as CallOrder, Read as CallRead, Memory as CallMemory}
 use Rattle.mesh_check.specs.declared.verdicts.Verdict.TheVariants.{Legal, Wrong}
 use Rattle.mesh_linearizability.specs.declared.verdicts.CallVerdict.TheVariants.{Linearizable, Flawed, Undecided}
 use Rattle.mesh_judge.specs.JudgementTexts.{judgement_text}

@@ -1,9 +1,9 @@
 //! Those calls of a recorded history that both heaps replay.
 ghost use Rattle.std.specs.Prelude.{◌≡◌};
-ghost use Rattle.mesh_history.specs.RecordedWords.{plain_entry};
+ghost use Rattle.text_words.specs.RecordedWords.{plain_entry};
 ghost use Rattle.mesh_savings.specs.Calls.{call_of};
 
-use mesh_history::{RecordedEntry, RecordedReply, SpeltCommand};
+use history_reading::{RecordedEntry, RecordedReply, SpeltCommand};
 
 /// A call of a recorded program. A cell is any 32-bit number.
 #[derive(Clone, Copy, Debug, PartialEq, Eq)]

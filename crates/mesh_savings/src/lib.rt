@@ -14,7 +14,7 @@ mod words;
 
 pub use calls::{Call, call_of};
 pub use counts::{Counts, MeshCounts};
-pub use mesh_history::RecordedEntry;
+pub use history_reading::RecordedEntry;
 pub use mesh_placement::Placement;
 pub use savings::Savings;
 pub use settings::{Settings, Words};

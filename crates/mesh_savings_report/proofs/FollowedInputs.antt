@@ -6,10 +6,10 @@ use Rattle.model_words.specs.declared.faults.TextFault.{TextFault}
 use Rattle.mesh_devices.specs.declared.faults.ReplayError.{ReplayError}
 use Rattle.mesh_devices.specs.declared.faults.ReplayError.TheVariants.{Read, Write, Text, Memory}
 use Rattle.mesh_figures.specs.declared.samples.Sample.{Sample}
-use Rattle.mesh_history.proofs.HistoryInputs.{none_come}
-use Rattle.mesh_history.specs.Inputs.{HasCome, HasEnded, HasRead, HasStopped, IsFresh, lines_before, reading_left}
-use Rattle.mesh_history.specs.Readings.{Reading, reading_of}
-use Rattle.mesh_history.specs.declared.inputs.HistoryInput.{HistoryInput}
+use Rattle.history_reading.proofs.EntryInputs.{none_come}
+use Rattle.history_reading.specs.EntryInputs.{HasCome, HasEnded, HasRead, HasStopped, IsFresh, lines_before, reading_left}
+use Rattle.history_reading.specs.Readings.{Reading, reading_of}
+use Rattle.history_reading.specs.declared.entry_inputs.HistoryInput.{HistoryInput}
 use Rattle.mesh_savings.specs.Calls.{call_of}
 use Rattle.mesh_savings.specs.Followed.{Followed, start}
 use Rattle.mesh_savings.specs.declared.settings.Settings.{Settings}

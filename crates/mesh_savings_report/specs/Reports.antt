@@ -6,7 +6,7 @@ use Rattle.mesh_figures.specs.Texts.{figures_text}
 use Rattle.mesh_figures.specs.declared.samples.Counts.{Counts}
 use Rattle.mesh_figures.specs.declared.samples.Sample.{Sample}
 use Rattle.mesh_figures.specs.declared.samples.Window.{Window}
-use Rattle.mesh_history.specs.Readings.{reading_of}
+use Rattle.history_reading.specs.Readings.{reading_of}
 use Rattle.mesh_savings.specs.Calls.{call_of}
 use Rattle.mesh_savings.specs.Followed.{Followed, Goes, NoAddresses, NoObject, Outcome, start, step}
 use Rattle.mesh_savings.specs.declared.calls.Call.{Call}

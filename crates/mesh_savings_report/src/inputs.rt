@@ -1,7 +1,7 @@
 //! The report on a history that is read from a device.
 ghost use Rattle.std.specs.Prelude.{◌≡◌, [], Err, false, true, IfErr, IfOk, OnOk};
 ghost use Rattle.mesh_devices.specs.declared.faults.ReplayError.{ReplayError};
-ghost use Rattle.mesh_history.specs.Inputs.{IsFresh};
+ghost use Rattle.history_reading.specs.EntryInputs.{IsFresh};
 ghost use Rattle.mesh_savings.specs.Followed.{start};
 ghost use Rattle.mesh_savings_report.specs.Inputs.{HasFollowed, HasNotReported, HasShown};
 ghost use Rattle.mesh_savings_report.specs.Runs.{IsRun};
@@ -12,8 +12,8 @@ use crate::errors::SavingsError;
 use crate::options::SavingsOptions;
 use crate::reports::Report;
 use crate::runs::Run;
+use history_reading::HistoryInput;
 use mesh_devices::Source;
-use mesh_history::HistoryInput;
 use std::alloc::Global;
 
 /// Replays the recorded history that is read from `input` on two heaps, and reports what meshing saves.

@@ -9,7 +9,7 @@ use Rattle.std.proofs.lemmas.List.Folds.{flat_map-map}
 use Rattle.model_jobs.specs.Jobs.{Job, Line}
 use Rattle.model_jobs.specs.Texts.{command_text, ended, line_text, number_field, sections_from, text, version_number}
 use Rattle.model_words.specs.declared.commands.Command.{Command}
-use Rattle.mesh_spelling.proofs.PartTexts.{wrote_one}
+use Rattle.text_words.proofs.PartTexts.{wrote_one}
 use Rattle.mesh_spelling.specs.JobTexts.{begun_text, command_line, line_line, longer_job, sections_text}
 
 -- the line that begins a worker's section, without its end

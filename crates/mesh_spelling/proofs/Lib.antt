@@ -1,5 +1,3 @@
-pub mod Addresses
-pub mod Digits
 pub mod HistoryParts
 pub mod JobTexts
 pub mod PartTexts

@@ -3,7 +3,8 @@ use Rattle.std.proofs.Common.{◌≡◌, ◌∙◌, ℕ, ◌≤◌, List, ◌++�
 use Rattle.std.specs.List.{flat_map}
 use Rattle.std.proofs.lemmas.List.{take_all}
 use Rattle.model_memory.specs.Plain.{Entry}
-use Rattle.mesh_spelling.specs.Recordings.{entry_line, recorded_head, recorded_text}
+use Rattle.mesh_spelling.specs.Recordings.{entry_line, recorded_text}
+use Rattle.text_words.specs.RecordedTexts.{recorded_head}
 
 -- the lines of all entries are written
 pub all_recorded : (entries : List Entry) (i : ℕ) (text : List ℕ) → length entries ≤ i → text ≡ recorded_head ++ flat_map entry_line (take i entries)

@@ -1,4 +1,3 @@
-pub mod Addresses
 pub mod Answers
 pub mod Histories
 pub mod HistoryRows

@@ -3,6 +3,7 @@ use Rattle.std.specs.Prelude.{ℕ, List, ◌++◌, codes, decimal}
 use Rattle.std.specs.List.{flat_map}
 use Rattle.model_memory.specs.Plain.{Entry}
 use Rattle.model_jobs.specs.Texts.{command_text, ended, field, reply_text}
+use Rattle.text_words.specs.RecordedTexts.{recorded_head}
 
 -- the line of an entry, without its end: the worker, its command, and the reply
 abbrev pub entry_text : Entry → List ℕ
@@ -11,10 +12,6 @@ entry_text entry = decimal entry.worker ++ field (command_text entry.command) ++
 -- the line of an entry, with its end
 abbrev pub entry_line : Entry → List ℕ
 entry_line entry = ended (entry_text entry)
-
--- the first line of a recorded history, with its end: the version of the format
-abbrev pub recorded_head : List ℕ
-recorded_head = ended (codes "history 1")
 
 -- the text of a recorded history
 unfoldable pub recorded_text : List Entry → List ℕ

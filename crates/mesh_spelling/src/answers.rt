@@ -1,116 +1,95 @@
-//! The text of answer lines and of their parts, without line ends.
-ghost use Rattle.std.specs.Prelude.{◌≡◌, ◌+◌, ◌<◌, ◌≤◌, ◌++◌, decimal, length, vec_capacity, vec_len, OnOk};
-ghost use Rattle.model_jobs.specs.Texts.{address_text, byte_text, bytes_text, hex_digit, refusal_text, reply_text};
-ghost use Rattle.mesh_spelling.specs.Addresses.{wide_text};
+//! The answer lines of a mesher's calls, without line ends.
+ghost use Rattle.std.specs.Prelude.{◌≡◌, ◌++◌, decimal, map, OnOk};
+ghost use Rattle.std.specs.List.{flat_map};
+ghost use Rattle.model_jobs.specs.Texts.{answer_text, field, found_text, kind_text, left_text, pair_text, report_text};
+ghost use Rattle.mesh_page_heap.specs.PageHeap.{counts_told};
+ghost use Rattle.mesh_search.specs.Pairs.{pairing};
+ghost use Rattle.mesh_spelling.specs.Answers.{counted_text, step_told};
 
-mod mesher;
-
-use hex::encode_to_slice;
-use itoa::Buffer;
-pub use mesher::{add_counted, add_found, add_report, add_step};
-use model_words::{MAX_BYTES, Refusal, Reply};
+use mesh_running::kind_name;
+use mesh_search::Found;
+use mesh_steps::{Report, StepDone};
+use model_words::Refusal;
 use std::alloc::AllocError;
+use text_words::{add_decimal, add_refusal};
 
-/// Appends the answer line of a reply, without a line end. The only error is an allocation failure.
-pub fn add_reply(text: &mut Vec<u8>, reply: &Reply) -> Result<(), AllocError>
-    ensures { OnOk result (text.new.items ≡ text.old.items ++ reply_text reply.now) }
+/// Appends `words` and the number that a call returned. If the call was refused, appends only the refusal.
+pub fn add_counted(
+    text: &mut Vec<u8>,
+    words: &[u8],
+    count: Result<u32, Refusal>,
+) -> Result<(), AllocError>
+    ensures { OnOk result (text.new.items ≡ text.old.items ++ counted_text words.now count) }
 {
-    match reply {
-        Reply::Object(serial, address) => add_object(text, *serial, *address),
-        Reply::Done => text.extend_from_slice(b"done"),
-        Reply::Bytes(bytes) => {
-            text.extend_from_slice(b"bytes ")?;
-            add_bytes(text, bytes.as_slice())
-        }
-        Reply::At(address) => {
-            text.extend_from_slice(b"at ")?;
-            add_address(text, u64::from(*address))
-        }
-        Reply::Byte(byte) => {
-            text.extend_from_slice(b"byte ")?;
-            add_bytes(text, &[*byte])
-        }
-        Reply::Refused(refusal) => add_refusal(text, *refusal),
+    match count {
+        Ok(count) => add_count(text, words, count),
+        Err(refusal) => add_refusal(text, refusal),
     }
 }
 
-/// Adds `object SERIAL at ADDR`.
-fn add_object(text: &mut Vec<u8>, serial: u32, address: u32) -> Result<(), AllocError>
-    ensures { OnOk result (text.new.items ≡ text.old.items ++ reply_text (Reply.Object serial address)) }
+/// Appends words and a number.
+fn add_count(text: &mut Vec<u8>, words: &[u8], count: u32) -> Result<(), AllocError>
+    ensures { OnOk result (text.new.items ≡ text.old.items ++ (words.now ++ decimal count)) }
 {
-    text.extend_from_slice(b"object ")?;
-    add_decimal(text, u64::from(serial))?;
-    text.extend_from_slice(b" at ")?;
-    add_address(text, u64::from(address))
+    text.extend_from_slice(words)?;
+    add_decimal(text, u64::from(count))
 }
 
-/// Adds `refused NUMBER NAME`. The only error is an allocation failure.
-pub fn add_refusal(text: &mut Vec<u8>, refusal: Refusal) -> Result<(), AllocError>
-    ensures { OnOk result (text.new.items ≡ text.old.items ++ refusal_text refusal) }
+/// Appends `KIND left N` for a step that was made. If the step was refused, appends the refusal.
+pub fn add_step(text: &mut Vec<u8>, step: Result<StepDone, Refusal>) -> Result<(), AllocError>
+    ensures { OnOk result (text.new.items ≡ text.old.items ++ answer_text (step_told step)) }
 {
-    text.extend_from_slice(b"refused ")?;
-    add_decimal(text, u64::from(refusal.number()))?;
-    text.push(b' ')?;
-    text.extend_from_slice(refusal.name().as_bytes())
+    match step {
+        Ok(step) => add_step_done(text, step),
+        Err(refusal) => add_refusal(text, refusal),
+    }
 }
 
-/// Adds a number in decimal digits without a leading zero. The only error is an allocation failure.
-pub fn add_decimal(text: &mut Vec<u8>, number: u64) -> Result<(), AllocError>
-    ensures { OnOk result (text.new.items ≡ text.old.items ++ decimal number) }
+/// Adds `KIND left N`.
+fn add_step_done(text: &mut Vec<u8>, step: StepDone) -> Result<(), AllocError>
+    ensures { OnOk result (text.new.items ≡ text.old.items ++ (kind_text step.kind ++ field (left_text step.left))) }
 {
-    let mut digits = Buffer::new();
-    text.extend_from_slice(digits.format(number).as_bytes())
+    text.extend_from_slice(kind_name(step.kind).as_bytes())?;
+    add_count(text, b" left ", step.left)
 }
 
-/// The greatest number of hexadecimal digits of an address.
-const MAX_DIGITS: usize = 16;
-
-/// Adds an address in hexadecimal digits without a leading zero. The only error is an allocation failure.
-#[tactic(auto, using(crate::proofs::Addresses::few_digits, crate::proofs::Addresses::address_digits))]
-pub fn add_address(text: &mut Vec<u8>, address: u64) -> Result<(), AllocError>
-    ensures wide { OnOk result (text.new.items ≡ text.old.items ++ wide_text address) }
-    ensures of_job { address < 4294967296 → OnOk result (text.new.items ≡ text.old.items ++ address_text address) }
+/// Appends `found K probes Q`, and then each pair.
+pub fn add_found(text: &mut Vec<u8>, found: &Found) -> Result<(), AllocError>
+    ensures { OnOk result (text.new.items ≡ text.old.items ++ found_text found.now) }
 {
-    text.reserve(MAX_DIGITS)?;
-    push_address(text, address);
+    text.extend_from_slice(b"found ")?;
+    add_decimal(text, found.pairs.len() as u64)?;
+    text.extend_from_slice(b" probes ")?;
+    add_decimal(text, found.probes)?;
+    add_pairs(text, found.pairs.as_slice())
+}
+
+/// Adds pairs, a space before each.
+fn add_pairs(text: &mut Vec<u8>, pairs: &[(u32, u32)]) -> Result<(), AllocError>
+    ensures { OnOk result (text.new.items ≡ text.old.items ++ flat_map pair_text (map pairing pairs.now)) }
+{
+    for pair in pairs {
+        add_pair(text, *pair)?;
+    }
     Ok(())
 }
 
-/// Appends the hexadecimal digits of an address. The text must have room for them.
-#[tactic(auto, using(crate::proofs::Addresses::one_length, crate::proofs::Addresses::more_length))]
-fn push_address(text: &mut Vec<u8>, address: u64)
-    requires { vec_len text.old + length (wide_text address) ≤ vec_capacity text.old }
-    ensures digits { text.new.items ≡ text.old.items ++ wide_text address }
-    ensures len { vec_len text.new ≡ vec_len text.old + length (wide_text address) }
-    ensures room { vec_capacity text.new ≡ vec_capacity text.old }
+/// Adds a space and `SRC:DST`.
+fn add_pair(text: &mut Vec<u8>, pair: (u32, u32)) -> Result<(), AllocError>
+    ensures { OnOk result (text.new.items ≡ text.old.items ++ pair_text (pairing pair)) }
 {
-    if address < 16 {
-        text.push_reserved(digit(address as u8));
-        return;
-    }
-    push_address(text, address / 16);
-    text.push_reserved(digit((address % 16) as u8));
+    let (source, destination) = pair;
+    add_count(text, b" ", source)?;
+    add_count(text, b":", destination)
 }
 
-/// Adds up to 32 bytes, two hexadecimal digits each, in lower case. The only error is an allocation failure.
-pub fn add_bytes(text: &mut Vec<u8>, bytes: &[u8]) -> Result<(), AllocError>
-    requires { length bytes.now ≤ 32 }
-    ensures { OnOk result (text.new.items ≡ text.old.items ++ bytes_text bytes.now) }
+/// Adds `report objects A bytes B mapped C taken D saved E`.
+pub fn add_report(text: &mut Vec<u8>, report: Report) -> Result<(), AllocError>
+    ensures { OnOk result (text.new.items ≡ text.old.items ++ report_text (counts_told report)) }
 {
-    let mut digits = [0; 2 * MAX_BYTES];
-    let digits = &mut digits[..2 * bytes.len()];
-    encode_to_slice(bytes, digits).unwrap();
-    text.extend_from_slice(digits)
-}
-
-/// The hexadecimal digit of a value below 16, in lower case.
-fn digit(value: u8) -> u8
-    requires { value < 16 }
-    ensures { result ≡ hex_digit value }
-{
-    if value < 10 {
-        b'0' + value
-    } else {
-        b'a' + (value - 10)
-    }
+    add_count(text, b"report objects ", report.objects)?;
+    add_count(text, b" bytes ", report.bytes)?;
+    add_count(text, b" mapped ", report.mapped)?;
+    add_count(text, b" taken ", report.taken)?;
+    add_count(text, b" saved ", report.saved)
 }

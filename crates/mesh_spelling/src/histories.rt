@@ -5,10 +5,10 @@ ghost use Rattle.std.specs.Vec.{vec_items};
 ghost use Rattle.model_jobs.specs.Texts.{ended};
 ghost use Rattle.mesh_spelling.specs.Histories.{count_line, history_text, told_text, worker_line, worker_text};
 
-use crate::answers::{add_decimal, add_reply};
 use mesh_mutator::Entry;
 use model_words::Reply;
 use std::alloc::{AllocError, Global};
+use text_words::{add_decimal, add_reply};
 
 /// The lines of a history of `workers` workers, each with a line end. For each worker, in ascending order, there is a
 /// line `worker W` and then the answers to its commands in their order. The last line is `history N` with the number of

@@ -1,7 +1,7 @@
-//! Commands, lines of a plan, jobs, answers and histories as text.
+//! Jobs, answers to the mesher's calls, and histories as text.
 //!
-//! Some `add_..` functions append an answer line of a replay: the answer to a command, a search, a step or a report.
-//! The other `add_..` functions append a command or a plan line in the format of a job file, or a whole job.
+//! Some `add_..` functions append an answer line of a replay: the answer to a search, a step or a report. The other
+//! `add_..` functions append a plan line in the format of a job file, or a whole job.
 //!
 //! `history_lines` returns the text of a history in which each worker's answers are together. `recorded_history`
 //! returns the text of a history whose entries are in order, each with its command. Every error is an allocation
@@ -9,7 +9,6 @@
 #![tactic(auto)]
 
 mod answers;
-mod commands;
 mod histories;
 pub mod history_rows;
 mod jobs;
@@ -17,11 +16,7 @@ mod plan_lines;
 pub mod recording_rows;
 mod recordings;
 
-pub use answers::{
-    add_address, add_bytes, add_counted, add_decimal, add_found, add_refusal, add_reply,
-    add_report, add_step,
-};
-pub use commands::add_command;
+pub use answers::{add_counted, add_found, add_report, add_step};
 pub use histories::history_lines;
 pub use jobs::{add_job, add_job_start, add_longer_job, begun_texts_go_on};
 pub use plan_lines::add_plan_line;

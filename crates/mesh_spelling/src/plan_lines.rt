@@ -4,9 +4,9 @@ ghost use Rattle.model_jobs.specs.Jobs.{PairClass};
 ghost use Rattle.model_jobs.specs.Texts.{line_text, number_field};
 ghost use Rattle.mesh_job.specs.Plan.{line_of};
 
-use crate::commands::{add_named, add_numbers};
 use mesh_job::{PlanLine, Search};
 use std::alloc::AllocError;
+use text_words::{add_named, add_numbers};
 
 /// Adds a line of a plan, as a job file spells it. The only error is an allocation failure.
 pub fn add_plan_line(text: &mut Vec<u8>, line: &PlanLine) -> Result<(), AllocError>

@@ -1,11 +1,11 @@
 //! Recorded histories: the text of workers' commands and their answers.
 ghost use Rattle.std.specs.Prelude.{◌≡◌, ◌++◌, IfOk, OnOk};
-ghost use Rattle.mesh_spelling.specs.Recordings.{entry_line, recorded_head, recorded_text};
+ghost use Rattle.mesh_spelling.specs.Recordings.{entry_line, recorded_text};
+ghost use Rattle.text_words.specs.RecordedTexts.{recorded_head};
 
-use crate::answers::{add_decimal, add_reply};
-use crate::commands::add_command;
 use mesh_mutator::{Entry, Journal};
 use std::alloc::{AllocError, Global};
+use text_words::{add_command, add_decimal, add_reply};
 
 /// The lines of a recorded history, each with a line end: `history 1`, and for each entry `W COMMAND -> ANSWER`.
 ///

@@ -10,8 +10,8 @@ use Rattle.model_jobs.specs.JobFiles.{read_text}
 use Rattle.model_jobs.specs.Jobs.{Job}
 use Rattle.mesh_job.specs.Faults.{IsReadFault}
 use Rattle.mesh_job.specs.Taken.{HasTaken}
-use Rattle.mesh_job.specs.declared.faults.ReadFault.{ReadFault}
-use Rattle.mesh_job.specs.declared.faults.ReadFault.TheVariants.{Text as ReadText, Memory as ReadMemory}
+use Rattle.mesh_fields.specs.declared.faults.ReadFault.{ReadFault}
+use Rattle.mesh_fields.specs.declared.faults.ReadFault.TheVariants.{Text as ReadText, Memory as ReadMemory}
 use Rattle.mesh_job.specs.declared.reader.Reading.{Reading}
 use Rattle.mesh_devices.specs.Faults.{replay_error_of}
 use Rattle.mesh_text.specs.Replay.{HasReadInto, HasReadJob, HasReadNoJob, IsHeld}

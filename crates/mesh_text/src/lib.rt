@@ -22,12 +22,10 @@ pub use mesh_devices::{
     DeviceFault, Input, Output, ReplayError, Sink, Source, read_some, write_all, write_lines,
 };
 pub use mesh_job::{Commands, Job, Plan, PlanLine, ReadFault, Script, Scripts, read_file};
-pub use mesh_spelling::{
-    add_bytes, add_command, add_decimal, add_longer_job, add_plan_line, add_refusal, add_reply,
-    history_lines, recorded_history,
-};
+pub use mesh_spelling::{add_longer_job, add_plan_line, history_lines, recorded_history};
 pub use model_words::{Command, FaultKind, MAX_BYTES, Reply, TextFault, Version};
 pub use reading::read_job;
 pub use recorded::replay_recorded;
 pub use run::replay;
+pub use text_words::{add_bytes, add_command, add_decimal, add_refusal, add_reply};
 pub use turns::Turns;

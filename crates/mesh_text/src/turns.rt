@@ -10,10 +10,11 @@ ghost use Rattle.mesh_text.specs.Turns.{IsAt, IsTold, StandsBehind, book_of, lin
 use crate::mesher::{begin, cancel_first, pair, step_first, whole};
 use mesh_job::{Job, PlanLine, Script};
 use mesh_mutator::{Attempt, Book};
-use mesh_spelling::{add_counted, add_found, add_reply, add_report, add_step};
+use mesh_spelling::{add_counted, add_found, add_report, add_step};
 use mesh_steps::Heap;
 use model_words::Command;
 use std::alloc::{AllocError, Global};
+use text_words::add_reply;
 
 /// The heap of a job with its root cells and its journal, and each worker's place in its script.
 pub struct Turns {

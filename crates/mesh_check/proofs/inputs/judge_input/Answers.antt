@@ -1,5 +1,5 @@
 use Rattle.std.proofs.Common.{arith}
-use Rattle.mesh_history.proofs.Readings.{handed_on}
+use Rattle.history_reading.proofs.Readings.{handed_on}
 use Rattle.mesh_check.specs.Checks.{HasNotJudged}
 use Rattle.mesh_check.proofs.Entries.{ended_judged, fault_judged, line_of, more_taken, none_is, none_taken, some_holds, wrong_judged}
 use Rattle.mesh_check.proofs.inputs.judge_input.Goals as goal

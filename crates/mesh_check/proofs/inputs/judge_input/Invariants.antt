@@ -1,5 +1,5 @@
 use Rattle.std.proofs.Common.{◌≡◌, ◌-◌, ◌^◌, false}
-use Rattle.mesh_history.specs.Inputs.{lines_before}
+use Rattle.history_reading.specs.EntryInputs.{lines_before}
 use Rattle.mesh_check.proofs.Entries.{HasTaken}
 use Rattle.mesh_check.proofs.inputs.judge_input.Given as goal
 

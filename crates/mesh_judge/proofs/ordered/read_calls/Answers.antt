@@ -1,8 +1,8 @@
 use Rattle.std.proofs.Common.{Option, refl, subst}
 use Rattle.std.specs.Prelude.{IfSome, IsNone, map}
-use Rattle.mesh_calls.specs.CallInputs.{HasEnded, HasNext}
-use Rattle.mesh_calls.specs.CallWords.{IsReadCall, plain_call}
-use Rattle.mesh_calls.specs.declared.words.TimedCall.{TimedCall}
+use Rattle.history_reading.specs.CallInputs.{HasEnded, HasNext}
+use Rattle.history_reading.specs.CallWords.{IsReadCall, plain_call}
+use Rattle.history_reading.specs.declared.words.TimedCall.{TimedCall}
 use Rattle.mesh_judge.proofs.CallsCome.{all_came, none_came, one_came}
 use Rattle.mesh_judge.proofs.ordered.read_calls.Goals as goal
 

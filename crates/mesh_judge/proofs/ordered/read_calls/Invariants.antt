@@ -1,5 +1,5 @@
 use Rattle.std.proofs.Common.{◌≡◌, ◌-◌, ◌^◌, false}
-use Rattle.mesh_calls.specs.CallInputs.{lines_before}
+use Rattle.history_reading.specs.CallInputs.{lines_before}
 use Rattle.mesh_judge.specs.OrderedHistories.{HaveComeSoFar}
 use Rattle.mesh_judge.proofs.ordered.read_calls.Given as goal
 

@@ -2,9 +2,9 @@ use Rattle.std.proofs.Common.{◌≡◌, ℕ, refl}
 use Rattle.model_words.specs.declared.commands.Command.TheVariants.{New}
 use Rattle.model_words.specs.declared.refusals.Refusal.{Refusal}
 use Rattle.model_intervals.specs.OverlappingCalls.{HasEffect}
-use Rattle.mesh_history.specs.RecordedWords.{plain_reply}
-use Rattle.mesh_history.specs.declared.words.RecordedReply.{RecordedReply}
-use Rattle.mesh_history.specs.declared.words.RecordedReply.TheVariants.{Object, Done, Bytes, At, Byte, Refused}
+use Rattle.text_words.specs.RecordedWords.{plain_reply}
+use Rattle.text_words.specs.declared.recorded.RecordedReply.{RecordedReply}
+use Rattle.text_words.specs.declared.recorded.RecordedReply.TheVariants.{Object, Done, Bytes, At, Byte, Refused}
 use Rattle.mesh_linearizability.proofs.begins.new_begun.Goals as goal
 
 -- a `new` has no other effect

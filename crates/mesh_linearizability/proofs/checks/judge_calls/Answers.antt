@@ -2,11 +2,11 @@ use Rattle.std.proofs.Common.{◌≡◌, ℕ, ◌-◌, true, ◌++◌, ◌∷◌
 use Rattle.std.specs.Prelude.{IfOk, IfSome, IsNone}
 use Rattle.model_intervals.specs.Intervals.{Call, IsLinearizable}
 use Rattle.model_intervals.specs.OverlappingCalls.{IsHistory}
-use Rattle.mesh_calls.specs.CallInputs.{HasEnded, HasNext}
-use Rattle.mesh_calls.specs.CallReadings.{CallReading, is_in_order}
-use Rattle.mesh_calls.specs.CallWords.{plain_call}
-use Rattle.mesh_calls.specs.declared.words.TimedCall.{TimedCall}
-use Rattle.mesh_history.proofs.Readings.{handed_on}
+use Rattle.history_reading.specs.CallInputs.{HasEnded, HasNext}
+use Rattle.history_reading.specs.CallReadings.{CallReading, is_in_order}
+use Rattle.history_reading.specs.CallWords.{plain_call}
+use Rattle.history_reading.specs.declared.words.TimedCall.{TimedCall}
+use Rattle.history_reading.proofs.Readings.{handed_on}
 use Rattle.mesh_linearizability.specs.Checks.{HasNotJudged, IsKept, IsTold}
 use Rattle.mesh_linearizability.specs.Lives.{CannotBe}
 use Rattle.mesh_linearizability.specs.Standing.{lives_of}

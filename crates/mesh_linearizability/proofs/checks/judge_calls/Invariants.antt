@@ -1,5 +1,5 @@
 use Rattle.std.proofs.Common.{◌≡◌, ◌-◌, ◌^◌, false}
-use Rattle.mesh_calls.specs.CallInputs.{lines_before}
+use Rattle.history_reading.specs.CallInputs.{lines_before}
 use Rattle.mesh_linearizability.specs.Checks.{HasTaken}
 use Rattle.mesh_linearizability.proofs.checks.judge_calls.Given as goal
 

@@ -1,6 +1,6 @@
 use Rattle.std.proofs.Common.{◌+◌, List, arith, rules, subst, sym, take}
 use Rattle.model_intervals.specs.Intervals.{Call}
-use Rattle.mesh_calls.specs.CallWords.{plain_call}
+use Rattle.history_reading.specs.CallWords.{plain_call}
 use Rattle.mesh_linearization.specs.Orders.{calls_in_order}
 use Rattle.mesh_linearization.proofs.InOrder.{in_order_more}
 use Rattle.mesh_linearization.proofs.SoFar.{IsSoFar, more_so_far}

@@ -1,6 +1,6 @@
 use Rattle.std.proofs.Common.{◌≡◌, ◌++◌, take}
 use Rattle.std.specs.List.{flat_map}
-use Rattle.mesh_spelling.specs.Recordings.{recorded_head}
+use Rattle.text_words.specs.RecordedTexts.{recorded_head}
 use Rattle.mesh_linearization.specs.Orders.{calls_in_order}
 use Rattle.mesh_linearization.proofs.OrderTexts.{line_of}
 use Rattle.mesh_linearization.proofs.texts.history_in_order.Given as goal

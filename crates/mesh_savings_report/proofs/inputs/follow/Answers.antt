@@ -1,6 +1,6 @@
 use Rattle.std.proofs.Common.{◌∙◌, ◌∷◌, ◌++◌, [], sym}
-use Rattle.mesh_history.specs.Inputs.{HasCome}
-use Rattle.mesh_history.specs.RecordedWords.{plain_entry}
+use Rattle.history_reading.specs.EntryInputs.{HasCome}
+use Rattle.text_words.specs.RecordedWords.{plain_entry}
 use Rattle.mesh_savings_report.specs.Inputs.{HasNotReported}
 use Rattle.mesh_savings_report.specs.declared.errors.SavingsError.TheVariants.{Replay}
 use Rattle.mesh_savings_report.proofs.FollowedInputs.{end_gone, entry_fails, entry_gone, entry_used_up, none_gone, stop_gone}

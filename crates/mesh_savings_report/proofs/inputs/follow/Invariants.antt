@@ -1,5 +1,5 @@
 use Rattle.std.proofs.Common.{◌≡◌, ◌-◌, false}
-use Rattle.mesh_history.specs.Inputs.{lines_before}
+use Rattle.history_reading.specs.EntryInputs.{lines_before}
 use Rattle.mesh_savings_report.proofs.FollowedInputs.{HasGone}
 use Rattle.mesh_savings_report.proofs.inputs.follow.Given as goal
 

@@ -4,7 +4,7 @@ use Rattle.std.specs.Vec.{vec_items}
 use Rattle.std.proofs.lemmas.List.{take_all}
 use Rattle.mesh_spelling.specs.Histories.{count_line}
 use Rattle.mesh_spelling.proofs.HistoryParts.{whole_text}
-use Rattle.mesh_spelling.proofs.PartTexts.{wrote_one}
+use Rattle.text_words.proofs.PartTexts.{wrote_one}
 use Rattle.mesh_spelling.proofs.histories.history_lines.Goals as goal
 
 pub loop-part-preserved : goal.loop-part-preserved

@@ -1,6 +1,7 @@
 use Rattle.std.proofs.Common.{◌≡◌, ◌++◌, take}
 use Rattle.std.specs.List.{flat_map}
-use Rattle.mesh_spelling.specs.Recordings.{entry_line, recorded_head}
+use Rattle.mesh_spelling.specs.Recordings.{entry_line}
+use Rattle.text_words.specs.RecordedTexts.{recorded_head}
 use Rattle.mesh_spelling.proofs.recordings.recorded_history.Given as goal
 
 abbrev pub invariant-loop-entry : goal.invariant-loop-entry

@@ -1,7 +1,8 @@
 use Rattle.std.proofs.Common.{◌∙◌, ◌++◌, ap, append-nil, sym, arith}
 use Rattle.model_memory.specs.Plain.{Entry}
-use Rattle.mesh_spelling.specs.Recordings.{entry_line, recorded_head}
-use Rattle.mesh_spelling.proofs.PartTexts.{wrote_one}
+use Rattle.mesh_spelling.specs.Recordings.{entry_line}
+use Rattle.text_words.specs.RecordedTexts.{recorded_head}
+use Rattle.text_words.proofs.PartTexts.{wrote_one}
 use Rattle.mesh_spelling.proofs.RecordedTexts.{all_recorded}
 use Rattle.mesh_spelling.proofs.recordings.recorded_journal.Goals as goal
 

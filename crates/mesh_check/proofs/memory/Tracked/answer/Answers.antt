@@ -2,7 +2,7 @@ use Rattle.std.proofs.Common.{subst, sym}
 use Rattle.std.specs.Prelude.{IfOk}
 use Rattle.model_words.specs.declared.commands.Command.TheVariants.{Put, Free, Alias, Poke, Copy as CopyBytes}
 use Rattle.mesh_fields.specs.Commands.{plain_command}
-use Rattle.mesh_history.specs.RecordedWords.{plain_reply}
+use Rattle.text_words.specs.RecordedWords.{plain_reply}
 use Rattle.mesh_fields.specs.declared.commands.SpeltCommand.{SpeltCommand}
 use Rattle.mesh_check.specs.Judged.{IsAnswered}
 use Rattle.mesh_check.proofs.Judged.{told_done}

@@ -6,7 +6,7 @@ use Rattle.model_words.specs.declared.commands.Command.TheVariants.{Copy as Copy
 use Rattle.model_words.specs.declared.commands.Reply.TheVariants.{Done}
 use Rattle.model_words.specs.declared.refusals.Refusal.{Refusal}
 use Rattle.model_history.specs.Recorded.{Recorded}
-use Rattle.mesh_history.proofs.Readings.{handed_on}
+use Rattle.history_reading.proofs.Readings.{handed_on}
 use Rattle.mesh_check.specs.Stands.{Stands}
 use Rattle.mesh_check.specs.Objects.{LiveObject}
 use Rattle.mesh_check.proofs.Commands.{copy_done, copy_freed_from, copy_freed_to, inside, range_length}

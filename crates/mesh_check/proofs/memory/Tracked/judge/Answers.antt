@@ -3,7 +3,7 @@ use Rattle.std.specs.Prelude.{IfOk, IfSome, IsNone}
 use Rattle.model_words.specs.declared.commands.Command.TheVariants.{New}
 use Rattle.model_memory.specs.Plain.{Entry}
 use Rattle.mesh_fields.specs.Commands.{plain_command}
-use Rattle.mesh_history.specs.RecordedWords.{plain_entry, plain_reply}
+use Rattle.text_words.specs.RecordedWords.{plain_entry, plain_reply}
 use Rattle.mesh_fields.specs.declared.commands.SpeltCommand.{SpeltCommand}
 use Rattle.mesh_check.specs.Judged.{IsTaken, IsWrong, is_new}
 use Rattle.mesh_check.specs.Lines.{AreLined, HasLine}

@@ -1,7 +1,7 @@
 use Rattle.std.proofs.Common.{subst}
 use Rattle.mesh_fields.specs.Commands.{plain_command}
-use Rattle.mesh_history.specs.RecordedWords.{plain_reply}
-use Rattle.mesh_history.specs.declared.words.RecordedReply.{RecordedReply}
+use Rattle.text_words.specs.RecordedWords.{plain_reply}
+use Rattle.text_words.specs.declared.recorded.RecordedReply.{RecordedReply}
 use Rattle.mesh_check.specs.Reasons.{IsDifference}
 use Rattle.mesh_check.proofs.Judged.{told_answer, wrong_answer}
 use Rattle.mesh_check.proofs.Lines.{no_line}

@@ -1,8 +1,8 @@
 use Rattle.std.proofs.Common.{ℕ, subst, sym}
 use Rattle.std.specs.Prelude.{IfOk, IfSome, IsNone}
 use Rattle.model_words.specs.declared.commands.Command.TheVariants.{New}
-use Rattle.mesh_history.specs.RecordedWords.{plain_reply}
-use Rattle.mesh_history.specs.declared.words.RecordedReply.{RecordedReply}
+use Rattle.text_words.specs.RecordedWords.{plain_reply}
+use Rattle.text_words.specs.declared.recorded.RecordedReply.{RecordedReply}
 use Rattle.mesh_check.specs.Judged.{IsTaken, IsWrong}
 use Rattle.mesh_check.specs.Reasons.{Tells}
 use Rattle.mesh_check.proofs.memory.Tracked.judge_new.Goals as goal

@@ -2,7 +2,7 @@ use Rattle.std.proofs.Common.{◌≡◌, Some, Err, ap, subst, sym, ◌∙◌}
 use Rattle.model_memory.specs.Plain.{named_by}
 use Rattle.model_history.specs.Recorded.{Recorded}
 use Rattle.model_words.specs.declared.refusals.Refusal.{Refusal}
-use Rattle.mesh_history.proofs.Readings.{handed_on}
+use Rattle.history_reading.proofs.Readings.{handed_on}
 use Rattle.mesh_check.specs.Cells.{IsHeld}
 use Rattle.mesh_check.specs.Stands.{Stands}
 use Rattle.mesh_check.specs.declared.cells.Held.{Held}

@@ -2,7 +2,7 @@ use Rattle.std.proofs.Common.{ℕ, ap, ◌∙◌, sym}
 use Rattle.std.specs.Ordering.{nat_cmp}
 use Rattle.std.specs.BTreeMap.{BTreeMap, get}
 use Rattle.mesh_fields.specs.Commands.{plain_command}
-use Rattle.mesh_history.specs.RecordedWords.{plain_entry}
+use Rattle.text_words.specs.RecordedWords.{plain_entry}
 use Rattle.mesh_number_set.specs.Ranges.{Has}
 use Rattle.mesh_linearizability.specs.Standing.{lives_of, starts_of}
 use Rattle.mesh_linearizability.specs.declared.flaws.OutsideLife.TheVariants.{NotAfterNew, NotBeforeFree}

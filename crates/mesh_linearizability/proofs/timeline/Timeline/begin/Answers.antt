@@ -2,7 +2,7 @@ use Rattle.std.proofs.Common.{◌≡◌, ℕ, ◌+◌, ◌*◌, ap, ◌∙◌, s
 use Rattle.std.specs.Ordering.{nat_cmp}
 use Rattle.std.specs.BTreeMap.{BTreeMap, get}
 use Rattle.model_intervals.specs.Intervals.{Call}
-use Rattle.mesh_history.specs.RecordedWords.{plain_entry}
+use Rattle.text_words.specs.RecordedWords.{plain_entry}
 use Rattle.mesh_linearizability.specs.Queues.{key_of}
 use Rattle.mesh_linearizability.specs.Standing.{IsSetAt, waits_of}
 use Rattle.mesh_linearizability.specs.Timelines.{StartsWaiting}

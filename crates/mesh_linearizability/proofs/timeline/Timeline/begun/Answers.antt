@@ -4,7 +4,7 @@ use Rattle.model_intervals.specs.Objects.{is_access}
 use Rattle.model_intervals.specs.OverlappingCalls.{cell_of}
 use Rattle.mesh_fields.specs.Commands.{plain_command}
 use Rattle.mesh_fields.specs.declared.commands.SpeltCommand.{SpeltCommand}
-use Rattle.mesh_history.specs.RecordedWords.{plain_entry}
+use Rattle.text_words.specs.RecordedWords.{plain_entry}
 use Rattle.mesh_linearizability.specs.Standing.{HasBegunSo, lives_of}
 use Rattle.mesh_linearizability.proofs.BeginSteps.{few_more, new_so}
 use Rattle.mesh_linearizability.proofs.timeline.Timeline.begun.Goals as goal

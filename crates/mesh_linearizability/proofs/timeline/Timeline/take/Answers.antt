@@ -1,6 +1,6 @@
 use Rattle.std.proofs.Common.{ℕ, ◌+◌, Option, arith, refl, sym, subst}
 use Rattle.std.specs.Prelude.{IfSome, IsNone}
-use Rattle.mesh_calls.specs.CallWords.{plain_call}
+use Rattle.history_reading.specs.CallWords.{plain_call}
 use Rattle.mesh_linearizability.specs.Ends.{AreEnded, IsRuledOut, NoneBefore}
 use Rattle.mesh_linearizability.specs.Standing.{lives_of, waits_of}
 use Rattle.mesh_linearizability.specs.Timelines.{FewOpen}

@@ -1,5 +1,5 @@
 use Rattle.std.proofs.Common.{◌∙◌, arith, subst, sym, ap, ◌+◌, ℕ}
-use Rattle.mesh_history.specs.RecordedWords.{plain_entry}
+use Rattle.text_words.specs.RecordedWords.{plain_entry}
 use Rattle.mesh_savings.specs.Calls.{call_of}
 use Rattle.mesh_savings_report.specs.Runs.{Fails}
 use Rattle.mesh_savings_report.specs.declared.errors.SavingsError.{SavingsError}

@@ -1,0 +1,9 @@
+pub mod Arrows
+pub mod CallInputs
+pub mod CallLines
+pub mod CallOrders
+pub mod EntryInputs
+pub mod LinesRead
+pub mod QuickEntries
+pub mod Readings
+pub mod Sizes

@@ -1,0 +1,48 @@
+-- The calls of a history of overlapping calls, as calls of the model.
+use Rattle.std.specs.Prelude.{◌≡◌, ◌<◌, ◌≤◌, ◌^◌, Result, Ok, Err}
+use Rattle.model_history.specs.Recorded.{many_cells}
+use Rattle.model_intervals.specs.Intervals.{Call}
+use Rattle.model_intervals.specs.OverlappingCalls.{HasEffect, cell_at}
+use Rattle.model_words.specs.Commands.{IsInRange}
+use Rattle.model_words.specs.declared.faults.FaultKind.{FaultKind}
+use Rattle.mesh_fields.specs.Commands.{IsWithin, plain_command}
+use Rattle.text_words.specs.RecordedWords.{IsNarrow, IsSized, plain_entry, plain_reply}
+use Rattle.history_reading.specs.CallFiles.{Asked}
+use Rattle.history_reading.specs.declared.asked.AskedCall.{AskedCall}
+use Rattle.history_reading.specs.declared.words.TimedCall.{TimedCall}
+
+-- a call that was read, as a call of the model
+abbrev pub plain_call : TimedCall → Call
+plain_call call = record { begin = call.begin; end = call.end; entry = plain_entry call.entry }
+
+-- the call ends no earlier than it begins and before 2^64. Its command, answer and cell are in their ranges, and the
+-- answer shows the command's effect
+pub record IsReadCall (call : TimedCall) : Type 0 where
+  pub takes_time : call.begin ≤ call.end
+  pub ends : call.end < 2 ^ 64
+  pub in_range : IsInRange (plain_command call.entry.command)
+  pub sized : IsSized (plain_command call.entry.command)
+  pub narrow : IsNarrow call.entry.reply
+  pub effect : HasEffect (plain_command call.entry.command) (plain_reply call.entry.reply)
+  pub cell : cell_at (plain_call call) < many_cells
+
+-- the command that was read with its worker and moments, as in the model
+abbrev pub plain_asked : AskedCall → Asked
+plain_asked asked = record { worker = asked.worker; begin = asked.begin; end = asked.end; command = plain_command asked.command }
+
+-- the command's call ends no earlier than it begins and before 2^64, and the command is in its ranges
+pub record IsReadAsked (asked : AskedCall) : Type 0 where
+  pub takes_time : asked.begin ≤ asked.end
+  pub ends : asked.end < 2 ^ 64
+  pub in_range : IsInRange (plain_command asked.command)
+  pub within : IsWithin 4294967295 140737488355328 281474976710655 asked.command
+
+-- the code reads a worker's command as the definition does: as the same command, in its ranges, or as the same fault
+abbrev pub IsAskedRead : Result Asked FaultKind → Result AskedCall FaultKind → Type 0
+IsAskedRead read (Ok asked) = (read ≡ Ok (plain_asked asked)) × IsReadAsked asked
+IsAskedRead read (Err kind) = read ≡ Err kind
+
+-- the code reads a call as the definition does: as the same call, in its ranges, or as the same fault
+abbrev pub IsCallRead : Result Call FaultKind → Result TimedCall FaultKind → Type 0
+IsCallRead read (Ok call) = (read ≡ Ok (plain_call call)) × IsReadCall call
+IsCallRead read (Err kind) = read ≡ Err kind

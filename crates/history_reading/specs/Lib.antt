@@ -1,0 +1,12 @@
+pub mod CallFaults
+pub mod CallFiles
+pub mod CallInputs
+pub mod CallOrders
+pub mod CallReadings
+pub mod CallWords
+pub mod EffectLaws
+pub mod EntryInputs
+pub mod HistoryFiles
+pub mod QuickEntries
+pub mod Readers
+pub mod Readings

@@ -1,0 +1,68 @@
+//! Reads `W BEGIN END COMMAND`: a worker's command, and the times at which its call began and ended.
+ghost use Rattle.std.specs.Prelude.{◌≡◌};
+ghost use Rattle.history_reading.specs.CallFiles.{call_asked_in, is_object_word, object_command_in};
+ghost use Rattle.history_reading.specs.CallWords.{IsAskedRead};
+ghost use Rattle.mesh_fields.specs.Commands.{IsReadAs};
+ghost use Rattle.mesh_fields.specs.Lines.{texts};
+ghost use Rattle.mesh_fields.specs.declared.commands.Dialect.{Dialect};
+
+use mesh_fields::commands::{Dialect, SpeltCommand, command_of};
+use mesh_fields::lines::is_word;
+use mesh_fields::numbers::{number, number32};
+use model_words::FaultKind;
+
+/// The greatest number that a worker can have.
+const MAX_WORKER: u32 = 65_535;
+
+/// A worker's command, and the times at which its call began and ended.
+#[derive(Drop)]
+pub(crate) struct AskedCall {
+    pub worker: u32,
+    pub begin: u64,
+    pub end: u64,
+    pub command: SpeltCommand,
+}
+
+/// Reads the fields of a call's line before `->`.
+///
+/// The error is WORD if the worker, the start, the end or the word of the command is missing. Otherwise it is that of
+/// the leftmost fault.
+pub(crate) fn call_asked_of(fields: &[&[u8]]) -> Result<AskedCall, FaultKind>
+    ensures { IsAskedRead (call_asked_in (texts fields.now)) result }
+{
+    let [worker, begin, end, word, fields @ ..] = fields else {
+        return Err(FaultKind::Word);
+    };
+    let worker = number32(*worker, 0, MAX_WORKER)?;
+    let begin = number(*begin, 0, u64::MAX)?;
+    let end = number(*end, begin, u64::MAX)?;
+    let command = object_command_of(*word, fields)?;
+    Ok(AskedCall {
+        worker,
+        begin,
+        end,
+        command,
+    })
+}
+
+/// Reads the command with this word and these fields. The error is WORD if the command doesn't name one object by its
+/// cell. Otherwise it is that of the leftmost fault.
+fn object_command_of(word: &[u8], fields: &[&[u8]]) -> Result<SpeltCommand, FaultKind>
+    ensures { IsReadAs Dialect.History (object_command_in word.now (texts fields.now)) result }
+{
+    if !is_object_word(word) {
+        return Err(FaultKind::Word);
+    }
+    command_of(Dialect::History, word, fields)
+}
+
+/// Whether this is the word of a command that names one object by its cell.
+fn is_object_word(word: &[u8]) -> bool
+    ensures { result ≡ is_object_word word.now }
+{
+    is_word(word, b"new")
+        || is_word(word, b"put")
+        || is_word(word, b"get")
+        || is_word(word, b"free")
+        || is_word(word, b"addr")
+}

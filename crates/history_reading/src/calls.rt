@@ -1,0 +1,116 @@
+//! Reads the lines of a history of overlapping calls: the first line, and the lines of calls.
+ghost use Rattle.std.specs.Prelude.{◌≡◌, ◌⊎◌, ◌<◌, ◌++◌, ◌∷◌, [], Ok, Err, Some, None, true, false, length, IfOk, IfErr, IfSome, IsNone, OnOk, OnErr};
+ghost use Rattle.std.specs.List.{list_any};
+ghost use Rattle.model_jobs.specs.JobFiles.{is_empty};
+ghost use Rattle.history_reading.specs.CallFiles.{call_head_in, call_in, call_of, effect_in, has_effect};
+ghost use Rattle.history_reading.specs.CallWords.{IsCallRead, IsReadCall, plain_call};
+ghost use Rattle.mesh_fields.specs.Commands.{plain_command};
+ghost use Rattle.mesh_fields.specs.Lines.{line_fields, texts};
+ghost use Rattle.history_reading.specs.HistoryFiles.{arrow_split};
+ghost use Rattle.text_words.specs.RecordedWords.{IsReplyRead, plain_reply};
+
+use crate::TimedCall;
+use crate::asked::call_asked_of;
+use crate::entries::arrow_split;
+use mesh_fields::commands::SpeltCommand;
+use mesh_fields::lines::{check_bytes, fields_of, fields_up_to, header};
+use model_words::FaultKind;
+use text_words::{RecordedEntry, RecordedReply, reply_of};
+
+/// The version of a history of overlapping calls.
+const VERSION: u32 = 2;
+
+/// The greatest number of fields of a call's line.
+const MAX_CALL_FIELDS: usize = 37;
+
+/// Reads the first line of a history of overlapping calls, `history 2`, without its line end.
+///
+/// The error is the first of these that applies:
+///
+/// - LONG_LINE, if the line has more than 1,024 bytes.
+/// - BYTE, if a byte isn't from 20 to 7e (hexadecimal).
+/// - WORD, if the line isn't the word `history`, a space and one field that isn't empty.
+/// - NUMBER, if this field isn't `2`.
+pub fn read_call_head(line: &[u8]) -> Result<(), FaultKind>
+    ensures { result ≡ call_head_in line.now }
+{
+    check_bytes(line)?;
+    let fields = fields_of(line)?;
+    let [word, fields @ ..] = fields.as_slice() else {
+        return Err(FaultKind::Word);
+    };
+    header(*word, fields, b"history", VERSION, VERSION)?;
+    Ok(())
+}
+
+/// Reads the line of a call, `W BEGIN END COMMAND -> ANSWER`, without its line end.
+///
+/// The error is the first of these that applies:
+///
+/// - LONG_LINE, if the line has more than 1,024 bytes.
+/// - BYTE, if a byte isn't from 20 to 7e (hexadecimal).
+/// - WORD, if a field is empty, if there are more than 37 fields, or if no field is `->`.
+///
+/// Otherwise the error is that of the leftmost fault, as in `history 1`. Two faults are added. The error is NUMBER if
+/// END is below BEGIN. It is WORD if the command doesn't name one object by its cell, or if the command can't have the
+/// answer. Only a `new` may be refused.
+pub fn read_call(line: &[u8]) -> Result<TimedCall, FaultKind>
+    ensures ok { IfOk result (λ call. call_in line.now ≡ Ok (plain_call call)) }
+    ensures err { IfErr result (λ kind. call_in line.now ≡ Err kind) }
+    ensures read { IfOk result IsReadCall }
+{
+    check_bytes(line)?;
+    let fields = fields_up_to::<MAX_CALL_FIELDS>(line)?;
+    let (before, behind) = arrow_split(fields.as_slice()).ok_or(FaultKind::Word)?;
+    call_of(before, behind)
+}
+
+/// Reads the call whose line has the fields `before` in front of `->` and the fields `behind` after it. The error is
+/// that of the leftmost fault.
+fn call_of(before: &[&[u8]], behind: &[&[u8]]) -> Result<TimedCall, FaultKind>
+    ensures { IsCallRead (call_of (texts before.now) (texts behind.now)) result }
+{
+    let asked = call_asked_of(before)?;
+    let reply = effect_of(&asked.command, behind)?;
+    Ok(TimedCall {
+        begin: asked.begin,
+        end: asked.end,
+        entry: RecordedEntry {
+            worker: asked.worker,
+            command: asked.command,
+            reply,
+        },
+    })
+}
+
+/// Reads the answer to a command. The error is WORD if the answer is missing, or if the command can't have this answer.
+/// For a misspelt answer, it is the error of `reply_of`.
+fn effect_of(command: &SpeltCommand, fields: &[&[u8]]) -> Result<RecordedReply, FaultKind>
+    ensures read { IsReplyRead (effect_in (plain_command command.now) (texts fields.now)) result }
+    ensures effect { IfOk result (λ reply. has_effect (plain_command command.now) (plain_reply reply) ≡ true) }
+{
+    let [word, fields @ ..] = fields else {
+        return Err(FaultKind::Word);
+    };
+    let reply = reply_of(*word, fields)?;
+    if !has_effect(command, &reply) {
+        return Err(FaultKind::Word);
+    }
+    Ok(reply)
+}
+
+/// Whether the command can have this answer. If it can, the answer shows the command's effect.
+fn has_effect(command: &SpeltCommand, reply: &RecordedReply) -> bool
+    ensures { result ≡ has_effect (plain_command command.now) (plain_reply reply.now) }
+{
+    match command {
+        SpeltCommand::New(..) => matches!(
+            reply,
+            RecordedReply::Object(..) | RecordedReply::Refused(_)
+        ),
+        SpeltCommand::Put(..) | SpeltCommand::Free(_) => matches!(reply, RecordedReply::Done),
+        SpeltCommand::Get(..) => matches!(reply, RecordedReply::Bytes(_)),
+        SpeltCommand::Addr(_) => matches!(reply, RecordedReply::At(_)),
+        _ => false,
+    }
+}

@@ -1,4 +1,0 @@
-pub mod CallInputs
-pub mod CallLines
-pub mod CallOrders
-pub mod LinesRead

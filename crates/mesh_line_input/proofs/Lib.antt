@@ -1,3 +1,0 @@
-pub mod LineInputs
-pub mod LineSteps
-pub mod Pendings

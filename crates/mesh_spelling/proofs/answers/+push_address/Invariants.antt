@@ -1,4 +1,0 @@
-use Rattle.mesh_spelling.proofs.answers.+push_address.Given as goal
-
-abbrev pub decreases-push_address : goal.decreases-push_address
-decreases-push_address l = l.address
