@@ -2,17 +2,13 @@
 -- The i-th key is 3 * B + 1, where B is the greatest begin of the first i accesses.
 use Rattle.std.proofs.Common.{◌≡◌, ℕ, ◌+◌, ◌*◌, ◌<◌, ◌≤◌, max, List, [], ◌∷◌, arith, refl, ap}
 use Rattle.model_intervals.specs.Intervals.{Call}
+use Rattle.model_intervals.specs.KeyedOrders.{Keyed, calls_of, keyed_from}
 use Rattle.model_intervals.proofs.Lists.{Every, Pairs, every_both, every_weaker}
-use Rattle.model_intervals.proofs.Merged.{Keyed, Rises, calls_of}
+use Rattle.model_intervals.proofs.Merged.{Rises}
 
 -- a third of the key is between the call's begin and end
 abbrev pub IsWithin : Keyed → Type 0
 IsWithin p = (3 * p.call.begin ≤ p.key) × (p.key ≤ 3 * p.call.end + 2)
-
--- the accesses with their keys, where `low` is the greatest begin so far
-abbrev pub keyed_from : ℕ → List Call → List Keyed
-keyed_from low [] = []
-keyed_from low (call ∷ order) = record { key = 3 * max low call.begin + 1; call = call } ∷ keyed_from (max low call.begin) order
 
 pub keyed_calls : (low : ℕ) (order : List Call) → calls_of (keyed_from low order) ≡ order
 keyed_calls low [] = refl

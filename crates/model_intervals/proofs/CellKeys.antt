@@ -6,16 +6,17 @@ use Rattle.std.proofs.lemmas.Bool.{and_parts, eqb-true, false_from_ne_true}
 use Rattle.std.proofs.lemmas.List.{map-append}
 use Rattle.std.proofs.lemmas.List.Sorted.{IsPermutation-append_left, IsPermutation-append_right, IsPermutation-sym, IsPermutation-trans}
 use Rattle.model_intervals.specs.Intervals.{Call}
+use Rattle.model_intervals.specs.KeyedOrders.{Keyed, calls_of, keyed_from}
 use Rattle.model_intervals.specs.Objects.{accesses_of, is_access}
 use Rattle.model_intervals.specs.OverlappingCalls.{HasEffect, IsHistory, cell_at}
 use Rattle.model_intervals.proofs.AfterStep.{frees_own}
-use Rattle.model_intervals.proofs.AccessKeys.{IsWithin, keyed_calls, keyed_every, keyed_from, keyed_rise, keyed_within}
+use Rattle.model_intervals.proofs.AccessKeys.{IsWithin, keyed_calls, keyed_every, keyed_rise, keyed_within}
 use Rattle.model_intervals.proofs.MiddleForm.{frees, is_free, of_cell}
 use Rattle.model_intervals.proofs.Filtered.{every_filter, filter_every}
 use Rattle.model_intervals.proofs.Lists.{Every, Pairs, every_append, every_both, every_map, every_true, every_turn, every_unmap, every_weaker, pairs_append, pairs_map}
 use Rattle.model_intervals.proofs.Places.{every_from, pairs_from}
 use Rattle.model_intervals.proofs.CellOrders.{OwnOrder}
-use Rattle.model_intervals.proofs.Merged.{Keyed, Rises, calls_of}
+use Rattle.model_intervals.proofs.Merged.{Rises}
 use Rattle.model_intervals.proofs.CellParts.{access_no_free, access_no_new, free_no_new, frees_of, in_parts, is_new, new_so, news_of, parts}
 use Rattle.model_intervals.proofs.Permuted.{every_permuted}
 use Rattle.model_intervals.proofs.CellStates.{Leads, CellState, Unmade}
@@ -54,8 +55,7 @@ pub record IsLife (calls : List Call) (c : ℕ) (life : List Keyed) : Type 0 whe
   pub within : Every IsWithin life
   pub keys : Every HasOwnKey life
   pub same : IsPermutation (calls_of life) (of_cell c calls)
-  pub end : CellState
-  pub leads : Leads Unmade (calls_of life) end
+  pub taken : (t : CellState) × Leads Unmade (calls_of life) t
 
 module _ (calls : List Call) (history : IsHistory calls) (c : ℕ) (mine : OwnOrder calls c) where
   abbrev pub life : List Keyed
@@ -204,6 +204,5 @@ module _ (calls : List Call) (history : IsHistory calls) (c : ℕ) (mine : OwnOr
     keys = every_append HasOwnKey (keyed_by new_key (news_of c calls)) (keyed_from 0 mine.order ++ keyed_by free_key (frees_of c calls)) news_keys
         (every_append HasOwnKey (keyed_from 0 mine.order) (keyed_by free_key (frees_of c calls)) accesses_keys frees_keys);
     same = life_same;
-    end = mine.end;
-    leads = subst (λ xs. Leads Unmade xs mine.end) (sym life_calls) mine.leads;
+    taken = subst (λ xs. (t : CellState) × Leads Unmade xs t) (sym life_calls) mine.taken;
   }

@@ -11,17 +11,17 @@ use Rattle.model_words.specs.declared.commands.Command.TheVariants.{New, Put, Ge
 use Rattle.model_words.specs.declared.commands.Reply.{Reply}
 use Rattle.model_words.specs.declared.commands.Reply.TheVariants.{Object as Made, Done, Refused}
 use Rattle.model_intervals.specs.Intervals.{Call, RespectsTime}
-use Rattle.model_intervals.specs.Objects.{Object as NewObject, IsExplainedByObject, accessed, accesses_of, bytes_behind, effect_on, is_access, object_made}
-use Rattle.model_intervals.specs.OverlappingCalls.{HasEffect, IsAt, IsHistory, MakesOne, cell_at, cell_of}
+use Rattle.model_intervals.specs.Objects.{Object as NewObject, ExplainsAccesses, IsExplainedByObject, IsMadeAt, accessed, accesses_of, bytes_behind, effect_on, is_access, object_made}
+use Rattle.model_intervals.specs.OverlappingCalls.{HasEffect, IsHistory, MakesOne, cell_at, cell_of}
 use Rattle.model_intervals.proofs.AfterStep.{frees_own}
-use Rattle.model_intervals.proofs.MiddleForm.{frees, is_free, made_by}
+use Rattle.model_intervals.proofs.MiddleForm.{frees, is_free}
 use Rattle.model_intervals.proofs.Filtered.{every_filter, filter_every, filter_none}
 use Rattle.model_intervals.proofs.Lists.{Every, Has, Pairs, every_both, every_weaker}
 use Rattle.model_intervals.proofs.Places.{every_from}
 use Rattle.model_intervals.proofs.CellParts.{access_no_new, free_no_new, frees_of, is_new, news_of}
 use Rattle.model_intervals.proofs.Permuted.{every_permuted}
 use Rattle.model_intervals.proofs.CellStates.{Gone, Leads, Live, CellState, Unmade, after}
-use Rattle.model_intervals.proofs.CellTimes.{IsAccessOf, IsFreeOf, IsNewOf, IsOneOf, all_one_of, no_maker, one_new}
+use Rattle.model_intervals.proofs.CellTimes.{IsAccessOf, IsFreeOf, IsNewOf, IsOneOf, all_one_of, no_maker, one_free, one_new}
 
 -- two runs of one cell, one after the other
 pub leads_append : (s t u : CellState) (xs ys : List Call) → Leads s xs t → Leads t ys u → Leads s (xs ++ ys) u
@@ -71,15 +71,31 @@ new_kind (New cell len word) (Refused refusal) new effect = inr (λ h. h, refl)
 new_kind (New cell len word) reply new effect = absurd effect
 new_kind command reply new effect = absurd (cc new)
 
+-- a cell's calls can be taken in this order: its `new`, its accesses in the given order, its `free`
+abbrev pub CanBeTaken : List Call → ℕ → List Call → Type 0
+CanBeTaken calls c order = (t : CellState) × Leads Unmade (news_of c calls ++ (order ++ frees_of c calls)) t
+
 -- an order of a cell's accesses in which its calls can be taken
 pub record OwnOrder (calls : List Call) (c : ℕ) : Type 0 where
   pub order : List Call
   pub same : IsPermutation order (accesses_of c calls)
   pub in_time : RespectsTime order
-  pub end : CellState
-  pub leads : Leads Unmade (news_of c calls ++ (order ++ frees_of c calls)) end
+  pub taken : CanBeTaken calls c order
 
-module _ (calls : List Call) (history : IsHistory calls) (explained : IsExplainedByObject calls) (c : ℕ) where
+-- a cell's `new` made an object. The cell's calls can be taken in each order that explains its accesses
+pub record HasObject (calls : List Call) (c : ℕ) : Type 0 where
+  pub place : ℕ
+  pub new : Call
+  pub object : NewObject
+  pub made : IsMadeAt calls place new object
+  pub cell : object.cell ≡ c
+  pub taken : (order : List Call) → ExplainsAccesses calls c object.len object.address order → CanBeTaken calls c order
+
+-- a cell has no object, no accesses and no `free`
+abbrev pub HasNothing : List Call → ℕ → Type 0
+HasNothing calls c = (accesses_of c calls ≡ []) × CanBeTaken calls c []
+
+module _ (calls : List Call) (history : IsHistory calls) (c : ℕ) where
   -- a cell that has no object has no accesses and no `free`
   nothing_else : (Has (λ call. MakesOne call.entry.command call.entry.reply) (news_of c calls) → ⊥) → (accesses_of c calls ≡ []) × (frees_of c calls ≡ [])
   nothing_else none = (
@@ -91,14 +107,11 @@ module _ (calls : List Call) (history : IsHistory calls) (explained : IsExplaine
         let own = frees_own c x is in no_maker calls history c none x one (free_no_new x.entry.command own.0) own.1)) (all_one_of calls history)),
   )
 
-  no_order : (t : CellState) → (Has (λ call. MakesOne call.entry.command call.entry.reply) (news_of c calls) → ⊥) → Leads Unmade (news_of c calls) t → OwnOrder calls c
-  no_order t none leads = record {
-    order = [];
-    same = subst (λ xs. IsPermutation [] xs) (sym (nothing_else none).0) (IsPermutation-refl []);
-    in_time = λ i j d below within. absurd (omega (arith, within));
-    end = t;
-    leads = subst (λ xs. Leads Unmade (news_of c calls ++ xs) t) (sym (nothing_else none).1) (leads_append Unmade t t (news_of c calls) [] leads refl);
-  }
+  no_object : (t : CellState) → (Has (λ call. MakesOne call.entry.command call.entry.reply) (news_of c calls) → ⊥) → Leads Unmade (news_of c calls) t → HasNothing calls c
+  no_object t none leads = (
+    (nothing_else none).0,
+    (t, subst (λ xs. Leads Unmade (news_of c calls ++ xs) t) (sym (nothing_else none).1) (leads_append Unmade t t (news_of c calls) [] leads refl)),
+  )
 
   -- each call of `frees_of` is a `free` that was done
   all_free : Every (λ call. (is_free call.entry.command ≡ true) × HasEffect call.entry.command call.entry.reply) (frees_of c calls)
@@ -107,53 +120,53 @@ module _ (calls : List Call) (history : IsHistory calls) (explained : IsExplaine
       (filter_every (frees c) calls)
       (every_filter (λ call. HasEffect call.entry.command call.entry.reply) (frees c) calls (every_from (λ call. HasEffect call.entry.command call.entry.reply) calls history.have_effects))
 
-  made_order : (one_free : Pairs (λ a b. ⊥) (frees_of c calls)) (new : Call) → news_of c calls ≡ new ∷ [] → (i : ℕ) → IsAt calls i new → cell_at new ≡ c
-      → (x : NewObject) → made_by new ≡ Some x → x.cell ≡ cell_at new
-      → after Unmade new.entry.command new.entry.reply ≡ Some (Live (record { address = x.address; bytes = replicate x.len 0 })) → OwnOrder calls c
-  made_order one_free new news i at cell x makes cell_is goes =
-      let found = explained.each i new x (at, makes) in
-      let order = found.0 in
-      let at_cell : x.cell ≡ c = cell_is ∙ cell in
-      let same : IsPermutation order (accesses_of c calls) = subst (λ d. IsPermutation order (accesses_of d calls)) at_cell found.1.same in
-      let accesses = every_permuted (λ (call : Call). is_access call.entry.command ≡ true) (accesses_of c calls) order (IsPermutation-sym order (accesses_of c calls) same)
+  made_taken : (new : Call) → news_of c calls ≡ new ∷ [] → (x : NewObject)
+      → after Unmade new.entry.command new.entry.reply ≡ Some (Live (record { address = x.address; bytes = replicate x.len 0 }))
+      → (order : List Call) → ExplainsAccesses calls c x.len x.address order → CanBeTaken calls c order
+  made_taken new news x goes order explains =
+      let accesses = every_permuted (λ (call : Call). is_access call.entry.command ≡ true) (accesses_of c calls) order
+      (IsPermutation-sym order (accesses_of c calls) explains.same)
       (every_weaker (IsAccessOf c) (λ (call : Call). is_access call.entry.command ≡ true) (accesses_of c calls)
       (λ call is. (and_parts (is_access call.entry.command) (nat_eq (cell_at call) c) is).0)
       (filter_every (λ call. is_access call.entry.command && nat_eq (cell_at call) c) calls)) in
       let object : Object = record { address = x.address; bytes = replicate x.len 0 } in
-      let last : Object = record { address = x.address; bytes = found.1.last } in
-      let middle : Leads (Live object) order (Live last) = accesses_lead object order found.1.last accesses found.1.answers in
-      let freed = frees_lead last (frees_of c calls) all_free one_free in
+      let last : Object = record { address = x.address; bytes = explains.last } in
+      let middle : Leads (Live object) order (Live last) = accesses_lead object order explains.last accesses explains.answers in
+      let freed = frees_lead last (frees_of c calls) all_free (one_free calls history c) in
       let first : Leads Unmade (new ∷ []) (Live object) = (Live object, goes, refl) in
-      let behind = leads_append (Live object) (Live last) freed.0 order (frees_of c calls) middle freed.1 in
-      record {
-        order = order;
-        same = same;
-        in_time = found.1.in_time;
-        end = freed.0;
-        leads = subst (λ ns. Leads Unmade (ns ++ (order ++ frees_of c calls)) freed.0) (sym news)
-            (leads_append Unmade (Live object) freed.0 (new ∷ []) (order ++ frees_of c calls) first behind);
-      }
+      let behind = leads_append (Live object) (Live last) freed.0 order (frees_of c calls) middle freed.1 in (
+        freed.0,
+        subst (λ ns. Leads Unmade (ns ++ (order ++ frees_of c calls)) freed.0) (sym news)
+            (leads_append Unmade (Live object) freed.0 (new ∷ []) (order ++ frees_of c calls) first behind),
+      )
 
   -- by cases: no `new`, a `new` that made an object, or a refused one
-  by_new : (one_free : Pairs (λ a b. ⊥) (frees_of c calls)) (news : List Call) → news_of c calls ≡ news → Pairs (λ a b. ⊥) news
-      → Every (λ call. IsNewOf c call × HasEffect call.entry.command call.entry.reply × IsOneOf calls history call) news → OwnOrder calls c
-  by_new one_free [] is one all = no_order Unmade (λ has. subst (λ xs. Has (λ call. MakesOne call.entry.command call.entry.reply) xs) is has)
-      (subst (λ xs. Leads Unmade xs Unmade) (sym is) refl)
-  by_new one_free (new ∷ []) is one all =
+  by_new : (news : List Call) → news_of c calls ≡ news → Pairs (λ a b. ⊥) news
+      → Every (λ call. IsNewOf c call × HasEffect call.entry.command call.entry.reply × IsOneOf calls history call) news → HasObject calls c ⊎ HasNothing calls c
+  by_new [] is one all = inr (no_object Unmade (λ has. subst (λ xs. Has (λ call. MakesOne call.entry.command call.entry.reply) xs) is has)
+      (subst (λ xs. Leads Unmade xs Unmade) (sym is) refl))
+  by_new (new ∷ []) is one all =
       let test = and_parts (is_new new.entry.command) (nat_eq (cell_at new) c) all.0.0 in
       elim (new_kind new.entry.command new.entry.reply test.0 all.0.1) [
-        | inl made ↦ made_order one_free new is all.0.2.0 all.0.2.1 (eqb-true (cell_at new) c test.1) made.0 made.1 made.2 made.3
-        | inr refused ↦ no_order Unmade (λ has. only_refused refused.0 (subst (λ xs. Has (λ call. MakesOne call.entry.command call.entry.reply) xs) is has))
-            (subst (λ xs. Leads Unmade xs Unmade) (sym is) (Unmade, refused.1, refl))
+        | inl made ↦ inl (record {
+          place = all.0.2.0;
+          new = new;
+          object = made.0;
+          made = (all.0.2.1, made.1);
+          cell = made.2 ∙ eqb-true (cell_at new) c test.1;
+          taken = made_taken new is made.0 made.3;
+        })
+        | inr refused ↦ inr (no_object Unmade (λ has. only_refused refused.0 (subst (λ xs. Has (λ call. MakesOne call.entry.command call.entry.reply) xs) is has))
+            (subst (λ xs. Leads Unmade xs Unmade) (sym is) (Unmade, refused.1, refl)))
       ]
     where
       only_refused : (MakesOne new.entry.command new.entry.reply → ⊥) → Has (λ call. MakesOne call.entry.command call.entry.reply) (new ∷ []) → ⊥
       only_refused none (inl here) = none here
       only_refused none (inr later) = later
-  by_new one_free (new ∷ other ∷ news) is one all = absurd one.0.0
+  by_new (new ∷ other ∷ news) is one all = absurd one.0.0
 
-  pub own_order : Pairs (λ a b. ⊥) (frees_of c calls) → OwnOrder calls c
-  own_order one_free = by_new one_free (news_of c calls) refl (one_new calls history c) all
+  pub look_object : HasObject calls c ⊎ HasNothing calls c
+  look_object = by_new (news_of c calls) refl (one_new calls history c) all
     where
       all : Every (λ call. IsNewOf c call × HasEffect call.entry.command call.entry.reply × IsOneOf calls history call) (news_of c calls)
       all = every_both (IsNewOf c) (λ call. HasEffect call.entry.command call.entry.reply × IsOneOf calls history call)
@@ -162,3 +175,17 @@ module _ (calls : List Call) (history : IsHistory calls) (explained : IsExplaine
           (every_filter (λ call. HasEffect call.entry.command call.entry.reply × IsOneOf calls history call) (λ call. is_new call.entry.command && nat_eq (cell_at call) c) calls
           (every_both (λ call. HasEffect call.entry.command call.entry.reply) (IsOneOf calls history) (λ call. HasEffect call.entry.command call.entry.reply × IsOneOf calls history call) calls
           (λ call effect one. (effect, one)) (every_from (λ call. HasEffect call.entry.command call.entry.reply) calls history.have_effects) (all_one_of calls history)))
+
+  pub own_order : IsExplainedByObject calls → OwnOrder calls c
+  own_order explained = elim look_object [
+    | inl has ↦
+        let found = explained.each has.place has.new has.object has.made in
+        let explains = subst (λ d. ExplainsAccesses calls d has.object.len has.object.address found.0) has.cell found.1 in
+        record { order = found.0; same = explains.same; in_time = explains.in_time; taken = has.taken found.0 explains }
+    | inr none ↦ record {
+      order = [];
+      same = subst (λ xs. IsPermutation [] xs) (sym none.0) (IsPermutation-refl []);
+      in_time = λ i j d below within. absurd (omega (arith, within));
+      taken = none.1;
+    }
+  ]

@@ -75,7 +75,7 @@ access_no_free command h is = cc is
 abbrev pub parts : ℕ → List Call → List Call
 parts c calls = news_of c calls ++ (accesses_of c calls ++ frees_of c calls)
 
-and_false : (b : Bool) → (b && false) ≡ false
+pub and_false : (b : Bool) → (b && false) ≡ false
 and_false true = refl
 and_false false = refl
 

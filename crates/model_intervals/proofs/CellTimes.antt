@@ -29,7 +29,7 @@ IsAccessOf c call = (is_access call.entry.command && nat_eq (cell_at call) c) �
 
 module _ (calls : List Call) (history : IsHistory calls) where
   -- the cell's `new` is the call that made its object
-  new_ends : (c i : ℕ) (call : Call) (moment : ℕ) → IsAt calls i call → IsNewOf c call → IsMadeBefore calls c moment → call.end < moment
+  pub new_ends : (c i : ℕ) (call : Call) (moment : ℕ) → IsAt calls i call → IsNewOf c call → IsMadeBefore calls c moment → call.end < moment
   new_ends c i call moment here is made =
       let both = and_parts (is_new call.entry.command) (nat_eq (cell_at call) c) is in
       let cell = eqb-true (cell_at call) c both.1 in

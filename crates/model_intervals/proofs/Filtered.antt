@@ -1,5 +1,5 @@
 -- What a filter keeps of a list.
-use Rattle.std.proofs.Common.{◌≡◌, ◌⊎◌, inl, inr, Bool, true, false, List, [], ◌∷◌, ap, refl}
+use Rattle.std.proofs.Common.{◌≡◌, ◌⊎◌, inl, inr, Bool, true, false, List, [], ◌∷◌, map, ap, refl, sym, ◌∙◌}
 use Rattle.std.specs.List.{filter}
 use Rattle.model_intervals.proofs.Lists.{Every, Has, Pairs, tells}
 
@@ -16,6 +16,13 @@ filter_every p [] = tt
 filter_every p (x ∷ xs) = elim (tells (p x)) [
   | inl pass ↦ rw pass (pass, filter_every p xs)
   | inr fail ↦ rw fail (filter_every p xs)
+]
+
+pub every_unfilter : {X : Type 0} (P : X → Type 0) (p : X → Bool) (xs : List X) → Every P (filter p xs) → Every (λ x. p x ≡ true → P x) xs
+every_unfilter P p [] h = tt
+every_unfilter P p (x ∷ xs) h = elim (tells (p x)) [
+  | inl pass ↦ let h' : P x × Every P (filter p xs) = rw pass at h in (λ is. h'.0, every_unfilter P p xs h'.1)
+  | inr fail ↦ let h' : Every P (filter p xs) = rw fail at h in (λ is. absurd (let clash : true ≡ false = sym is ∙ fail in cc clash), every_unfilter P p xs h')
 ]
 
 pub pairs_filter : {X : Type 0} (R : X → X → Type 0) (p : X → Bool) (xs : List X) → Pairs R xs → Pairs R (filter p xs)
@@ -38,6 +45,14 @@ has_unfilter P p [] h = h
 has_unfilter P p (x ∷ xs) h = elim (tells (p x)) [
   | inl t ↦ let h' : P x ⊎ Has P (filter p xs) = rw t at h in elim h' [ inl here ↦ inl here | inr later ↦ inr (has_unfilter P p xs later) ]
   | inr f ↦ let h' : Has P (filter p xs) = rw f at h in inr (has_unfilter P p xs h')
+]
+
+-- a filter of mapped elements
+pub filter_map : {X Y : Type 0} (f : X → Y) (p : Y → Bool) (xs : List X) → filter p (map f xs) ≡ map f (filter (λ x. p (f x)) xs)
+filter_map f p [] = refl
+filter_map f p (x ∷ xs) = elim (tells (p (f x))) [
+  | inl pass ↦ rw pass (ap (λ rest. f x ∷ rest) (filter_map f p xs))
+  | inr fail ↦ rw fail (filter_map f p xs)
 ]
 
 -- a filter that no element passes, and one that all pass

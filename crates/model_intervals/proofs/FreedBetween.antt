@@ -1,10 +1,11 @@
 -- A list sorted by keys: if, for each two objects whose ranges meet, the first one's `free` has a key between theirs,
 -- then each object is freed in time.
 use Rattle.std.proofs.Common.{◌≡◌, ℕ, ◌+◌, ◌<◌, ◌≤◌, true, false, List, [], ◌∷◌, arith, sym, ◌∙◌, inl, inr, Some}
+use Rattle.model_intervals.specs.KeyedOrders.{Keyed, calls_of}
 use Rattle.model_intervals.specs.Objects.{Object as NewObject, Meet}
 use Rattle.model_intervals.proofs.MiddleForm.{AllGoInTime, GoesInTime, frees, made_by}
 use Rattle.model_intervals.proofs.Lists.{Every, Has, Pairs, every_weaker, has_every, has_out, pairs_weaker, tells}
-use Rattle.model_intervals.proofs.Merged.{Keyed, Rises, calls_of}
+use Rattle.model_intervals.proofs.Merged.{Rises}
 
 -- the call frees the cell's object, and its key is between two keys
 abbrev pub IsBetween : ℕ → ℕ → ℕ → Keyed → Type 0

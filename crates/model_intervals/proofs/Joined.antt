@@ -6,11 +6,12 @@ use Rattle.std.proofs.lemmas.Bool.{eqb-true, lt-ltb, ne_eqb}
 use Rattle.std.proofs.lemmas.Bool.Decides.{nat_tests, eqb_tells, leb_tells}
 use Rattle.std.proofs.lemmas.List.Sorted.{IsPermutation-append, IsPermutation-cons, IsPermutation-middle, IsPermutation-refl, IsPermutation-sym, IsPermutation-trans}
 use Rattle.model_intervals.specs.Intervals.{Call}
+use Rattle.model_intervals.specs.KeyedOrders.{Keyed, calls_of}
 use Rattle.model_intervals.specs.OverlappingCalls.{cell_at}
 use Rattle.model_intervals.proofs.MiddleForm.{of_cell}
 use Rattle.model_intervals.proofs.Filtered.{filter_none}
 use Rattle.model_intervals.proofs.Lists.{Every, Pairs, every_map, every_weaker, tells}
-use Rattle.model_intervals.proofs.Merged.{Keyed, Rises, calls_of, merge, merge_every, merge_other, merge_own, merge_pairs, merge_same}
+use Rattle.model_intervals.proofs.Merged.{Rises, merge, merge_every, merge_other, merge_own, merge_pairs, merge_same}
 
 -- the merged lists of the cells below a number
 abbrev pub joined : (ℕ → List Keyed) → ℕ → List Keyed

@@ -12,6 +12,7 @@ mod ExplainedTest
 mod Filtered
 mod FormToRun
 mod FreedBetween
+pub mod GivenKeys
 mod HistoryTest
 mod Joined
 mod Lists
@@ -24,6 +25,8 @@ mod Permuted
 mod Picks
 mod Places
 mod RunToForm
+mod SortedCalls
 mod StepFacts
 mod Steps
 mod StepsBack
+mod TimedParts

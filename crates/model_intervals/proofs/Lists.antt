@@ -34,6 +34,11 @@ pub every_true : {X : Type 0} (P : X → Type 0) (xs : List X) → ((x : X) → 
 every_true P [] f = tt
 every_true P (x ∷ xs) f = (f x, every_true P xs f)
 
+-- exchanging `Every` and a quantifier over an index
+pub every_all : {I X : Type 0} (Q : I → X → Type 0) (xs : List X) → ((i : I) → Every (Q i) xs) → Every (λ x. (i : I) → Q i x) xs
+every_all Q [] h = tt
+every_all Q (x ∷ xs) h = (λ i. (h i).0, every_all Q xs (λ i. (h i).1))
+
 pub every_map : {X Y : Type 0} (f : X → Y) (P : Y → Type 0) (xs : List X) → Every (λ x. P (f x)) xs → Every P (map f xs)
 every_map f P [] h = tt
 every_map f P (x ∷ xs) h = (h.0, every_map f P xs h.1)

@@ -1,21 +1,13 @@
--- Calls with keys, and the merge of two lists of keyed calls.
-use Rattle.std.proofs.Common.{◌≡◌, ℕ, ◌≤◌, true, false, nat_eq, nat_le, cond, List, [], ◌∷◌, ◌++◌, map, arith, refl, sym, ap, ◌∙◌, inl, inr}
+-- The merge of two lists of keyed calls.
+use Rattle.std.proofs.Common.{◌≡◌, ℕ, ◌≤◌, true, false, nat_eq, nat_le, cond, List, [], ◌∷◌, ◌++◌, arith, refl, sym, ap, ◌∙◌, inl, inr}
 use Rattle.std.specs.List.Sorted.{IsPermutation}
 use Rattle.std.proofs.lemmas.Bool.Decides.{leb_tells}
 use Rattle.std.proofs.lemmas.List.Sorted.{IsPermutation-cons, IsPermutation-middle, IsPermutation-refl, IsPermutation-trans}
 use Rattle.model_intervals.specs.Intervals.{Call}
+use Rattle.model_intervals.specs.KeyedOrders.{Keyed, calls_of}
 use Rattle.model_intervals.specs.OverlappingCalls.{cell_at}
 use Rattle.model_intervals.proofs.MiddleForm.{of_cell}
 use Rattle.model_intervals.proofs.Lists.{Every, Pairs, every_weaker, tells}
-
--- a call, and the number by which it is sorted
-pub record Keyed : Type 0 where
-  pub key : ℕ
-  pub call : Call
-
--- the calls alone
-abbrev pub calls_of : List Keyed → List Call
-calls_of keyed = map (λ p. p.call) keyed
 
 -- the first key is no greater than the second
 abbrev pub Rises : Keyed → Keyed → Type 0

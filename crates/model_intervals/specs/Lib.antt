@@ -1,5 +1,6 @@
 pub mod ExampleLaws
 pub mod Intervals
+pub mod KeyedOrders
 pub mod LocalityLaws
 pub mod Objects
 pub mod OverlappingCalls

@@ -1,7 +1,7 @@
 //! Histories of calls that overlap in time: which orders of effect explain them.
 //!
-//! `locality_laws` proves that the calls can be judged object by object. `example_laws` checks the definitions on
-//! examples.
+//! `locality_laws` proves that the calls can be judged object by object, and that orders of each object's accesses give
+//! an order of all calls. `example_laws` checks the definitions on examples.
 #![tactic(auto)]
 
 pub mod example_laws;
