@@ -24,8 +24,7 @@ pub struct CallInput {
 }
 
 impl CallInput {
-    /// Returns a history of which nothing was read, and allocates the buffer for one read. Returns an error if the
-    /// allocation fails.
+    /// Returns a history of which nothing was read, and allocates the buffer for one read.
     pub fn new(alloc: Global) -> Result<CallInput, AllocError>
         ensures { IfOk result IsFresh }
     {

@@ -22,8 +22,7 @@ pub struct HistoryInput {
 }
 
 impl HistoryInput {
-    /// Returns a history of which nothing was read, and allocates the buffer for one read. Returns an error if the
-    /// allocation fails.
+    /// Returns a history of which nothing was read, and allocates the buffer for one read.
     pub fn new(alloc: Global) -> Result<HistoryInput, AllocError>
         ensures { IfOk result IsFresh }
     {

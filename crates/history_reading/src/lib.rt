@@ -10,6 +10,8 @@
 //!   (`entry_inputs`) those of a text that is read from a device.
 //! - `calls` reads one line of a `history 2`, and `asked` the part of the line before the answer. A `CallInput`
 //!   (`call_inputs`) returns the calls of a text that is read from a device. Each returned call is in order (`order`).
+//!
+//! An `AllocError` means that an allocation failed.
 #![tactic(auto)]
 
 mod asked;

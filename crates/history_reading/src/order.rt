@@ -30,7 +30,7 @@ impl CallOrder {
     }
 
     /// Adds the next call if it is in order, and returns whether it is. A call is in order if no earlier call began
-    /// later, and each earlier call of the same worker ended before it begins. Returns an error if an allocation fails.
+    /// later, and each earlier call of the same worker ended before it begins.
     pub(crate) fn add(&mut self, call: &TimedCall) -> Result<bool, AllocError>
         requires { call.now.begin ≤ call.now.end }
         ensures tested { (calls : List Call) → IsOrderOf self.old calls

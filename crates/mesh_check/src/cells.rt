@@ -76,8 +76,7 @@ impl Cells {
         Ok(())
     }
 
-    /// Records that the object whose number a cell holds was freed through this cell. The only error is an allocation
-    /// failure.
+    /// Records that the object whose number a cell holds was freed through this cell.
     pub fn free(&mut self, cell: u32) -> Result<(), AllocError>
         requires { IsSome (number_at self.old cell) }
         ensures { OnOk result (IsFreedAt self.old self.new cell) }

@@ -47,7 +47,7 @@ impl Model for Chunk {
 }
 
 impl Chunk {
-    /// Returns a chunk in which nothing was stored. The only error is an allocation failure.
+    /// Returns a chunk in which nothing was stored.
     fn new(alloc: Global) -> Result<Chunk, AllocError>
         ensures { IfOk result (λ chunk. chunk ≡ chunk_bytes None) }
     {

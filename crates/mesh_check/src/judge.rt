@@ -26,7 +26,7 @@ use std::alloc::AllocError;
 
 impl Tracked {
     /// Returns `None` if the reference memory accepts the entry on a line, and performs the entry. Otherwise returns
-    /// the reason why the reference memory rejects the entry. The only error is an allocation failure.
+    /// the reason why the reference memory rejects the entry.
     ///
     /// After a rejected entry or an error, the memory may differ from the memory after the earlier entries.
     pub fn judge(&mut self, line: u32, entry: &RecordedEntry) -> Result<Option<Reason>, AllocError>
@@ -57,7 +57,7 @@ impl Tracked {
     }
 
     /// Accepts a command other than `new` with its answer and returns `None`, or returns the reason why the answer is
-    /// wrong. The only error is an allocation failure.
+    /// wrong.
     fn judge_answer(
         &mut self,
         line: u32,
@@ -84,8 +84,7 @@ impl Tracked {
         Ok(Some(difference(copied(reply), wanted, byte)))
     }
 
-    /// Runs a command other than `new`, and returns the answer of the reference memory. The only error is an allocation
-    /// failure.
+    /// Runs a command other than `new`, and returns the answer of the reference memory.
     fn answer(&mut self, line: u32, command: &SpeltCommand) -> Result<RecordedReply, AllocError>
         requires range { IsInRange (plain_command command.now) }
         requires other { is_new (plain_command command.now) ≡ false }
@@ -165,8 +164,7 @@ impl Tracked {
         }
     }
 
-    /// Accepts a `new` with its answer and returns `None`, or returns the reason why the answer is wrong. The only
-    /// error is an allocation failure.
+    /// Accepts a `new` with its answer and returns `None`, or returns the reason why the answer is wrong.
     fn judge_new(
         &mut self,
         line: u32,
@@ -203,7 +201,7 @@ impl Tracked {
     }
 
     /// Makes an object with the serial and the address of the answer and returns `None`, or returns the reason why the
-    /// answer is wrong. The only error is an allocation failure.
+    /// answer is wrong.
     fn judge_made(
         &mut self,
         line: u32,
@@ -273,7 +271,7 @@ fn is_own_refusal(len: u64, refusal: Refusal) -> bool
     }
 }
 
-/// Returns the answer to a command that changes the memory: done or a refusal. The only error is an allocation failure.
+/// Returns the answer to a command that changes the memory: done or a refusal.
 fn done(outcome: Result<(), CommandError>) -> Result<RecordedReply, AllocError>
     ensures { IsTold outcome result }
 {

@@ -14,6 +14,8 @@
 //!   states what a verdict means for the whole text.
 //!
 //! In contracts, a text is a list of bytes, and a clause about the trees holds for every memory that they represent.
+//!
+//! An `AllocError` means that an allocation failed.
 #![tactic(auto)]
 
 mod cells;

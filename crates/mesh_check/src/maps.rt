@@ -19,8 +19,7 @@ pub fn nearest(starts: &BTreeMap<u64, u32>, address: u64) -> Option<u32>
     Some(*number)
 }
 
-/// Overwrites the bytes of an object that begin at offset `off`, for the entry on a line. The only error is an
-/// allocation failure.
+/// Overwrites the bytes of an object that begin at offset `off`, for the entry on a line.
 pub fn store(
     objects: &mut BTreeMap<u32, Stored>,
     number: u32,
@@ -51,7 +50,7 @@ pub fn set<T: Drop>(map: &mut BTreeMap<u32, T>, key: u32, value: T) -> Result<()
     Ok(())
 }
 
-/// Maps an object's address to its number. The only error is an allocation failure.
+/// Maps an object's address to its number.
 pub fn set_start(
     starts: &mut BTreeMap<u64, u32>,
     address: u64,

@@ -330,8 +330,6 @@ impl Tracked {
 
     /// Makes an object of `len` zeros at `address`, for the `new` on a line, and stores the object's number in `cell`.
     /// The contract states the new memory only if the object's range is vacant.
-    ///
-    /// The only error is an allocation failure.
     pub fn make(
         &mut self,
         line: u32,

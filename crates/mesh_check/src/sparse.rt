@@ -89,9 +89,9 @@ impl SparseBytes {
 
     /// Overwrites the bytes that begin at offset `start`, for the entry on a line. Lines are numbered from 1.
     ///
-    /// The only error is an allocation failure. After the error, a prefix of the bytes is stored, and all other bytes
-    /// are unchanged. The error is possible only if the range touches a chunk of 64 bytes in which no byte was stored
-    /// before. No clause states this condition, because the list of bytes doesn't show which chunks take memory.
+    /// After the error, a prefix of the bytes is stored, and all other bytes are unchanged. The error is possible only
+    /// if the range touches a chunk of 64 bytes in which no byte was stored before. No clause states this condition,
+    /// because the list of bytes doesn't show which chunks take memory.
     pub fn store(&mut self, start: u64, bytes: &[u8], line: u32) -> Result<(), AllocError>
         requires fits { start + length bytes.now ≤ length self.old }
         requires few { length bytes.now ≤ 32 }

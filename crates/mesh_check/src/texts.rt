@@ -9,8 +9,7 @@ use history_reading::RecordedReply;
 use std::alloc::{AllocError, Global};
 use text_words::{add_address, add_decimal, add_recorded};
 
-/// The line of a verdict, with a line end: `legal N entries`, or `line L: REASON`. The only error is an allocation
-/// failure.
+/// The line of a verdict, with a line end: `legal N entries`, or `line L: REASON`.
 pub fn verdict_line(alloc: Global, verdict: &Verdict) -> Result<Vec<u8>, AllocError>
     ensures { IfOk result (λ text. text.items ≡ verdict_text verdict.now) }
 {

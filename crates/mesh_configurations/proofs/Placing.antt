@@ -156,7 +156,7 @@ passes_by_places effect calls begun taken numbers pending (CallEnds i ∷ events
     let ends : call_at taken p ≡ Some i = ap (λ o. found_call o) is.0 in
     let on = to_places effect calls begun taken numbers pending p i path c next d are alike ends pends leads in (
       on.1,
-      ((on.0, on.2, on.3), on.4.marks p i ends ∙ it),
+      ((on.0, record { moves_are = on.2; leads = on.3 }), on.4.marks p i ends ∙ it),
       passes_by_places effect calls begun (slice_set taken p None) (without i numbers) (slice_set pending p None) events placed (forgot next i) last (forgot_at on.1 p) is.1
           (taken_ended calls begun taken numbers pending p i ends are) (alike_ended calls begun taken numbers pending next on.1 p i are on.4 ends) left,
     )
@@ -175,9 +175,9 @@ passes_by_numbers effect calls begun taken numbers pending (CallEnds i ∷ event
 passes_by_numbers effect calls begun taken numbers pending (CallBegins ∷ events) (Begins p call ∷ placed) c d is are alike pass =
     passes_by_numbers effect calls (suc begun) (slice_set taken p (Some begun)) (begun ∷ numbers) (slice_set pending p (Some call)) events placed c d is.2
     (taken_begun calls begun taken numbers pending p call is.0 is.1 are) (alike_begun begun taken c d p is.0 alike) pass
-passes_by_numbers effect calls begun taken numbers pending (CallEnds i ∷ events) (Ends p ∷ placed) c d is are alike (next, ((path, below, leads), it), pass) =
+passes_by_numbers effect calls begun taken numbers pending (CallEnds i ∷ events) (Ends p ∷ placed) c d is are alike (next, ((path, reach), it), pass) =
     let ends : call_at taken p ≡ Some i = ap (λ o. found_call o) is.0 in
-    let on = to_numbers effect calls begun taken numbers pending p i path c d next are alike ends leads in
+    let on = to_numbers effect calls begun taken numbers pending p i path c d next are alike ends reach.leads in
     let rest = passes_by_numbers effect calls begun (slice_set taken p None) (without i numbers) (slice_set pending p None) events placed (forgot on.1 i) (forgot_at next p)
     is.1 (taken_ended calls begun taken numbers pending p i ends are) (alike_ended calls begun taken numbers pending on.1 next p i are on.4 ends) pass in
     (rest.0, (on.1, (on.0, on.2, on.3, sym (on.4.marks p i ends) ∙ it), rest.1))

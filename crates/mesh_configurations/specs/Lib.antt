@@ -1,7 +1,10 @@
 pub mod Carried
-pub mod Growing
+pub mod Effects
+pub mod Faults
+pub mod Left
 pub mod Marks
 pub mod Orders
 pub mod Placed
 pub mod Refuted
 pub mod Standings
+pub mod Ways

@@ -2,7 +2,7 @@
 use Rattle.std.specs.Prelude.{◌≡◌, ℕ, Option, Some, length, slice_get}
 use Rattle.mesh_configurations.specs.declared.refutation.Refutation.{Refutation}
 use Rattle.mesh_configurations.specs.Carried.{carry}
-use Rattle.mesh_configurations.specs.Growing.{AreMet}
+use Rattle.mesh_configurations.specs.Left.{AreMet}
 use Rattle.mesh_configurations.specs.Standings.{Standing, effect_at, had_effect}
 
 -- the refutation has the call that was pending at the place. Its configurations are exactly the kept ones, and those to

@@ -17,8 +17,6 @@ pub trait Calls {
 
     /// Returns the state after the effect of a call. Returns `None` if the call's answer would differ from the recorded
     /// answer.
-    ///
-    /// The only error is an allocation failure.
     fn effect(
         alloc: Global,
         state: &Self::State,
@@ -26,7 +24,7 @@ pub trait Calls {
     ) -> Result<Option<Self::State>, AllocError>
         ensures { IfOk result (λ next. next ≡ effect state.now call.now) };
 
-    /// Returns a copy of a state. The only error is an allocation failure.
+    /// Returns a copy of a state.
     fn copied(alloc: Global, state: &Self::State) -> Result<Self::State, AllocError>
         ensures { IfOk result (λ copy. copy ≡ state.now) };
 }

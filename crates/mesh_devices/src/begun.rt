@@ -44,7 +44,7 @@ impl BegunLine {
         MAX_LINE_BYTES - self.bytes.len()
     }
 
-    /// Adds bytes to the line, which must have room for them. Returns an error if an allocation fails.
+    /// Adds bytes to the line, which must have room for them.
     pub fn add(&mut self, bytes: &[u8]) -> Result<(), AllocError>
         requires room { length bytes.now ≤ 1024 - length self.old.bytes.items }
         requires unended { IsUnended bytes.now }

@@ -9,6 +9,8 @@
 //!   beginning of a line whose end hasn't been read yet, and of `Pending` bytes, the unused bytes of the last read.
 //! - `ReplayError` is the reason for which a run that reads a text from one device and writes to another device stops
 //!   before its end.
+//!
+//! An `AllocError` means that an allocation failed.
 #![tactic(auto)]
 
 mod begun;

@@ -24,8 +24,7 @@ pub struct LineInput {
 }
 
 impl LineInput {
-    /// Creates an input of which nothing was read, and allocates the buffer for one read of the device. Returns an
-    /// error if the allocation fails.
+    /// Creates an input of which nothing was read, and allocates the buffer for one read of the device.
     pub fn new(alloc: Global) -> Result<LineInput, AllocError>
         ensures { IfOk result IsFresh }
     {

@@ -33,7 +33,7 @@ impl Model for Pending {
 }
 
 impl Pending {
-    /// Allocates the buffer for one read, without unused bytes. Returns an error if the allocation fails.
+    /// Allocates the buffer for one read, without unused bytes.
     pub fn new(alloc: Global) -> Result<Pending, AllocError>
         ensures { IfOk result (λ pending. pending ≡ []) }
     {
@@ -74,7 +74,7 @@ impl Pending {
     }
 }
 
-/// Allocates the buffer for one read. Returns an error if the allocation fails.
+/// Allocates the buffer for one read.
 fn room_to_read(alloc: Global) -> Result<Vec<u8>, AllocError>
     ensures { IfOk result (λ room. vec_len room ≡ 65536) }
 {

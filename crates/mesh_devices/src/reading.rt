@@ -22,7 +22,7 @@ pub fn read_all<I: Source>(alloc: Global, input: &mut I) -> Result<Vec<u8>, Repl
     read_into(alloc, input, &mut room)
 }
 
-/// Returns a buffer for the bytes of one read. The only error is an allocation failure.
+/// Returns a buffer for the bytes of one read.
 fn room_to_read(alloc: Global) -> Result<Vec<u8>, AllocError>
     ensures { IfOk result (λ room. vec_len room ≡ 16384) }
 {

@@ -1,4 +1,6 @@
 //! The picture of a job: what its heap looks like after each line of its plan, as one SVG file.
+//!
+//! An `AllocError` means that an allocation failed.
 #![tactic(auto)]
 
 mod painters;

@@ -35,7 +35,6 @@ impl Measuring {
     }
 
     /// Returns the picture of the measured job, with no point drawn yet. Its first point is the one after line `first`.
-    /// The only error is an allocation failure.
     pub fn picture(
         self,
         alloc: Global,
@@ -102,7 +101,7 @@ impl Drawing {
         self.picture.next_line()
     }
 
-    /// Adds the text after the last point. The only error is an allocation failure.
+    /// Adds the text after the last point.
     pub fn end(&self, text: &mut Text) -> Result<(), AllocError> {
         self.picture.end(text)
     }

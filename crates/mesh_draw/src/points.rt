@@ -33,8 +33,7 @@ pub(crate) trait Painter {
     /// The number of the line whose point the painter takes next.
     ghost next: { Self → ℕ };
 
-    /// Takes the point after the next line, and adds the point's drawing to `text`. The only error is an allocation
-    /// failure.
+    /// Takes the point after the next line, and adds the point's drawing to `text`.
     fn point(&mut self, point: &Point<'_>, text: &mut Text) -> Result<(), AllocError>
         requires few { point.now.line.now.number ≤ 1048576 }
         requires next { point.now.line.now.number ≡ next self.old }
@@ -88,7 +87,7 @@ fn lines_up_to(job: &Job, to: usize) -> usize
 }
 
 /// Plays the line of a plan at a place, counted from 0. Passes the point after this line to the painter, unless the
-/// line comes before line `from`. The only error is an allocation failure.
+/// line comes before line `from`.
 fn show_point<P: Painter>(
     alloc: Global,
     job: &Job,
@@ -128,7 +127,7 @@ fn show_point<P: Painter>(
 }
 
 /// Returns the caption of the line of a plan at a place, counted from 0. The caption of a worker's line includes the
-/// attempted command. The only error is an allocation failure.
+/// attempted command.
 fn caption_at(alloc: Global, job: &Job, turns: &Turns, place: usize) -> Result<Vec<u8>, AllocError>
     requires within { place < length job.now.plan }
     requires stands { StandsBehind job.now place turns.now }
@@ -149,8 +148,7 @@ fn caption_at(alloc: Global, job: &Job, turns: &Turns, place: usize) -> Result<V
     }
 }
 
-/// Appends `worker W`, and the command that the worker attempts, if there is one. The only error is an allocation
-/// failure.
+/// Appends `worker W`, and the command that the worker attempts, if there is one.
 fn add_attempt(text: &mut Vec<u8>, worker: u32, command: Option<Command>) -> Result<(), AllocError>
     ensures { OnOk result (text.new.items ≡ text.old.items ++ attempt_text worker command) }
 {

@@ -16,7 +16,7 @@ const MAX_MEMBERS: usize = 8;
 /// The greatest number of meshes that run at once.
 const MAX_MESHES: usize = 10;
 
-/// The frame of a heap: what a picture shows of it. The only error is an allocation failure.
+/// The frame of a heap: what a picture shows of it.
 pub fn frame_of(alloc: Global, heap: &Heap) -> Result<Frame, AllocError>
     ensures { IfOk result (IsFrame heap.now) }
 {

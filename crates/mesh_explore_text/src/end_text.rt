@@ -12,7 +12,7 @@ use mesh_text::add_decimal;
 use std::alloc::{AllocError, Global};
 
 /// Adds the text about a state in which no move is left: the phase of each mesh and, for each worker that has commands
-/// left, the reason why the worker can't continue. Every error in this file is an allocation failure.
+/// left, the reason why the worker can't continue.
 pub(crate) fn add_end(
     alloc: Global,
     text: &mut Vec<u8>,

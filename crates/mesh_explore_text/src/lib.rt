@@ -13,6 +13,8 @@
 //! the plan of the job, the job file leads to the outcome. If the lines that lead to some state are added, and then the
 //! line of a worker, the job file ends with the answer that this worker gets in the state's phases of the meshes
 //! (`shown`). `wanted` selects the text that is reported.
+//!
+//! An `AllocError` means that an allocation failed.
 #![tactic(auto)]
 
 mod answer_text;

@@ -9,8 +9,7 @@ use mesh_text::add_reply;
 use model_words::Reply;
 use std::alloc::AllocError;
 
-/// Adds a line for each worker that has got a reply: ` worker W: ANSWER | ANSWER ..`. Every error in this file is an
-/// allocation failure.
+/// Adds a line for each worker that has got a reply: ` worker W: ANSWER | ANSWER ..`.
 pub fn add_told(text: &mut Vec<u8>, told: &[Told]) -> Result<(), AllocError>
     ensures { OnOk result (text.new.items ≡ text.old.items ++ told_text told.now) }
 {

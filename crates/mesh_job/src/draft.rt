@@ -139,7 +139,7 @@ impl Draft {
     }
 
     /// If the next line of the text has a frequent form, reads the line into the draft and returns the bytes after the
-    /// line. Otherwise returns `None` and reads nothing. The only error is an allocation failure.
+    /// line. Otherwise returns `None` and reads nothing.
     #[inline]
     fn take_quick_line<'a>(&mut self, text: &'a [u8]) -> Result<Option<&'a [u8]>, AllocError>
         requires draft { IsDraft self.old }

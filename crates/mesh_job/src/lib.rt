@@ -10,6 +10,8 @@
 //!
 //! `command_of` and `plan_line` read a line from its word and its fields. `quick_command` and `quick_line` read the
 //! first line of a text in one pass, if the line has one of the frequent forms.
+//!
+//! An `AllocError` means that an allocation failed.
 #![tactic(auto)]
 
 mod command_list;

@@ -62,8 +62,7 @@ impl Reading {
 
     /// Takes the whole lines at the start of the file's next bytes, and returns the number of bytes of these lines. At
     /// most 1,024 bytes are left, which begin a line. Pass them to the next call again, followed by the file's next
-    /// bytes. If the file has a fault or its line `end` was taken, all bytes are taken. The only error is an allocation
-    /// failure.
+    /// bytes. If the file has a fault or its line `end` was taken, all bytes are taken.
     pub fn take(&mut self, bytes: &[u8]) -> Result<usize, AllocError>
         requires sound { IsReading self.old }
         requires most { bytes_taken self.old + length bytes.now ≤ 1048577 }

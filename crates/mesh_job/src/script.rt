@@ -97,7 +97,7 @@ impl Script {
         Some(unpack_command(self.bytes.as_slice(), packed))
     }
 
-    /// Returns all commands unpacked, in their order. The only error is an allocation failure.
+    /// Returns all commands unpacked, in their order.
     pub fn commands(&self, alloc: Global) -> Result<Commands, AllocError>
         ensures { IfOk result (λ commands. commands ≡ self.now) }
     {

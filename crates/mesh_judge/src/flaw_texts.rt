@@ -10,8 +10,7 @@ use model_words::{MAX_BYTES, Refusal};
 use std::alloc::AllocError;
 use text_words::{add_bytes, add_decimal, add_recorded};
 
-/// Appends the reason why no order of effects explains a history. The only error of each function in this file is an
-/// allocation failure.
+/// Appends the reason why no order of effects explains a history.
 pub(crate) fn add_flaw(text: &mut Vec<u8>, flaw: &Flaw) -> Result<(), AllocError>
     ensures { OnOk result (text.new.items ≡ text.old.items ++ flaw_text flaw.now) }
 {

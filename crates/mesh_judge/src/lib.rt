@@ -2,12 +2,15 @@
 //!
 //! A `Begun` source reports whether its text begins with certain bytes, and consumes nothing of the text. `judge` tests
 //! in this way whether the first line is `history 2`. If so, it passes the text to the judge `mesh_linearizability`,
-//! and otherwise to `mesh_check`.
+//! and otherwise to `mesh_check`. `ordered_history` writes the calls of a `history 2` in an order that explains them.
+//!
+//! An `AllocError` means that an allocation failed.
 #![tactic(auto)]
 
 mod begun;
 mod flaw_texts;
 mod judging;
+mod order_faults;
 mod ordered;
 mod texts;
 
@@ -16,5 +19,6 @@ pub use history_reading::CallError;
 pub use judging::{Judgement, judge};
 pub use mesh_check::Verdict;
 pub use mesh_linearizability::CallVerdict;
+pub use order_faults::OrderFault;
 pub use ordered::ordered_history;
 pub use texts::judgement_line;

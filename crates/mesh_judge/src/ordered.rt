@@ -1,34 +1,36 @@
 //! An order of effects that explains calls that overlap.
-ghost use Rattle.std.specs.Prelude.{◌≡◌, ◌++◌, ◌∷◌, [], false, IfOk, IfSome, OnOk};
+ghost use Rattle.std.specs.Prelude.{◌≡◌, ◌++◌, ◌∷◌, [], ℕ, false, Err, IfErr, IfOk, IfSome, IsNone, OnOk};
 ghost use Rattle.history_reading.specs.CallInputs.{IsFresh};
-ghost use Rattle.mesh_judge.specs.OrderedHistories.{AreCallsOf, HaveCome, IsOrderedHistory};
+ghost use Rattle.mesh_linearizability.specs.Checks.{IsLinearizableText};
+ghost use Rattle.mesh_judge.specs.declared.order_faults.OrderFault.{OrderFault};
+ghost use Rattle.mesh_judge.specs.OrderedHistories.{AreCallsOf, HasFault, HasNoAnswer, HasStoppedSomewhere, HaveCome, IsOrderedHistory};
 
+use crate::OrderFault;
 use history_reading::{CallError, CallInput, TimedCall};
 use mesh_devices::{Input, Source};
-use mesh_linearizability::{CallVerdict, check_calls};
-use mesh_linearization::{history_in_order, linearize};
+use mesh_linearizability::{history_in_order, linearize};
 use std::alloc::{AllocError, Global};
 
 /// Returns the calls of a text of `history 2` in an order of effects that explains them, as a text of `history 1`.
-/// `most` limits the number of configurations that an object may have at the end of a call.
+/// Returns `None` if the text has a fault, or if its calls are no history or no order explains them.
 ///
-/// Returns `None` if the calls aren't found to be linearizable, if there are 2^32 - 1 calls or more, or if no order was
-/// found. The only error is an allocation failure.
+/// The error is `Undecided` if more than `most` configurations of an object are met at the end of a call, if more than
+/// 64 accesses to one object are pending, or if there are 2^32 - 1 calls or more.
 pub fn ordered_history(
     alloc: Global,
     text: &[u8],
     most: usize,
-) -> Result<Option<Vec<u8>>, AllocError>
-    ensures { IfOk result (λ found. IfSome found (λ history. IsOrderedHistory text.now history.items)) }
+) -> Result<Option<Vec<u8>>, OrderFault>
+    ensures ordered { IfOk result (λ found. IfSome found (λ history. IsOrderedHistory text.now history.items)) }
+    ensures none { IfOk result
+        (λ found. IsNone found → (entries : ℕ) → IsLinearizableText text.now entries → ⊥) }
+    ensures stopped { IfErr result (HasNoAnswer text.now most) }
 {
-    if !is_linearizable(alloc, text, most)? {
-        return Ok(None);
-    }
     let Some(calls) = calls_in(alloc, text)? else {
         return Ok(None);
     };
     if calls.len() >= u32::MAX as usize {
-        return Ok(None);
+        return Err(OrderFault::Undecided);
     }
     let Some(order) = linearize(alloc, calls.as_slice(), most)? else {
         return Ok(None);
@@ -37,28 +39,20 @@ pub fn ordered_history(
     Ok(Some(history))
 }
 
-/// Whether the calls of a text are found to be linearizable. Returns `false` also if the text has a fault, or if the
-/// judge doesn't decide within the limit `most`. The only error is an allocation failure.
-fn is_linearizable(alloc: Global, text: &[u8], most: usize) -> Result<bool, AllocError> {
-    let mut input = Input::new(text);
-    match check_calls(alloc, &mut input, most) {
-        Ok(CallVerdict::Linearizable(_)) => Ok(true),
-        Ok(_) => Ok(false),
-        Err(CallError::Memory) => Err(AllocError),
-        Err(_) => Ok(false),
-    }
-}
-
-/// Returns the calls of a text, or `None` if the text has a fault. The only error is an allocation failure.
-fn calls_in(alloc: Global, text: &[u8]) -> Result<Option<Vec<TimedCall>>, AllocError>
-    ensures { IfOk result (λ found. IfSome found (λ calls. AreCallsOf text.now calls.items)) }
+/// Returns the calls of a text, or `None` if the text has a fault.
+fn calls_in(alloc: Global, text: &[u8]) -> Result<Option<Vec<TimedCall>>, OrderFault>
+    ensures calls { IfOk result (λ found. IfSome found (λ calls. AreCallsOf text.now calls.items)) }
+    ensures none { IfOk result (λ found. IsNone found → HasFault text.now) }
+    ensures decided { result ≡ Err OrderFault.Undecided → ⊥ }
 {
     let mut history = CallInput::new(alloc)?;
     let mut input = Input::new(text);
     match read_calls(alloc, &mut history, &mut input) {
         Ok(calls) => Ok(Some(calls)),
-        Err(CallError::Memory) => Err(AllocError),
-        Err(_) => Ok(None),
+        Err(CallError::Text(_)) => Ok(None),
+        Err(CallError::Order(_)) => Ok(None),
+        Err(CallError::Read) => Err(OrderFault::Read),
+        Err(CallError::Memory) => Err(OrderFault::Memory),
     }
 }
 
@@ -71,7 +65,8 @@ fn read_calls<I: Source>(
 ) -> Result<Vec<TimedCall>, CallError>
     requires unread { I.has_failed input.old ≡ false }
     requires fresh { IsFresh history.old }
-    ensures { IfOk result (λ calls. HaveCome (I.remaining input.old) (I.remaining input.new) calls.items) }
+    ensures calls { IfOk result (λ calls. HaveCome (I.remaining input.old) (I.remaining input.new) calls.items) }
+    ensures fault { IfErr result (HasStoppedSomewhere (I.remaining input.old) (I.remaining input.new)) }
 {
     let mut calls = Vec::new(alloc);
     while let Some(call) = history.next(input)? {
@@ -80,7 +75,7 @@ fn read_calls<I: Source>(
     Ok(calls)
 }
 
-/// Adds a call. The only error is an allocation failure.
+/// Adds a call.
 fn add(calls: &mut Vec<TimedCall>, call: TimedCall) -> Result<(), AllocError>
     ensures { OnOk result (calls.new.items ≡ calls.old.items ++ call ∷ []) }
 {

@@ -11,7 +11,7 @@ use std::alloc::{AllocError, Global};
 use text_words::add_decimal;
 
 /// Returns the line of a judgement, with its line end. `most` is the limit on configurations that was passed to
-/// `judge`. The only error is an allocation failure.
+/// `judge`.
 pub fn judgement_line(
     alloc: Global,
     judgement: &Judgement,

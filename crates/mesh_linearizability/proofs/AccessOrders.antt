@@ -101,15 +101,24 @@ module _ (address : ℕ) where
       chained None after same f g each = ap (λ a. option_and_then g a) same
       chained (Some next) after same f g each = each next ∙ ap (λ a. option_and_then g a) same
 
+  -- an order of the accesses with their places, as an order of the calls of a judge
+  pub record IsOrderOf (cell len : ℕ) (calls : List Call) (order : List (Timed Access)) : Type 0 where
+    pub placed : List PlacedCall
+    pub permuted : IsPermutation (placed_from 0 cell calls) placed
+    pub timed : map (timed_of address) placed ≡ order
+    pub explains : ExplainsAccesses calls cell len address (map call_at placed)
+
   -- accesses of a cell that a judge of timed calls explains
-  pub accesses_explained : (cell len : ℕ) (calls : List Call) (order : List (Timed Access)) → ExplainsTimed effect (first_state len) (timed_accesses cell address calls) order
-      → (own : List Call) × ExplainsAccesses calls cell len address own
-  accesses_explained cell len calls order h =
+  pub explained_in_order : (cell len : ℕ) (calls : List Call) (order : List (Timed Access)) → ExplainsTimed effect (first_state len) (timed_accesses cell address calls) order
+      → IsOrderOf cell len calls order
+  explained_in_order cell len calls order h =
       let placed = placed_from 0 cell calls in
       let l = lifted (timed_of address) placed order (IsPermutation-sym order (map (timed_of address) placed) h.same) in
-      let behind = subst (λ xs. state_behind effect (first_state len) xs ≡ Some h.last) (sym l.2) h.answers in (
-        map call_at l.0,
-        record {
+      let behind = subst (λ xs. state_behind effect (first_state len) xs ≡ Some h.last) (sym l.2) h.answers in record {
+        placed = l.0;
+        permuted = l.1;
+        timed = l.2;
+        explains = record {
           same = subst (λ xs. IsPermutation (map call_at l.0) xs) (accesses_are 0 cell calls)
               (IsPermutation-map call_at l.0 placed (IsPermutation-sym placed l.0 l.1));
           in_time = all_pairs_mapped call_at (λ front back. back.end < front.begin → ⊥) l.0
@@ -117,8 +126,12 @@ module _ (address : ℕ) where
           last = bytes_of h.last;
           answers = subst (λ (bytes : List ℕ). bytes_behind address bytes (map call_at l.0) ≡ Some (bytes_of h.last)) (bytes_of-first len)
               (sym (same_bytes l.0 (first_state len)) ∙ ap (λ s. option_map bytes_of s) behind);
-        },
-      )
+        };
+      }
+
+  pub accesses_explained : (cell len : ℕ) (calls : List Call) (order : List (Timed Access)) → ExplainsTimed effect (first_state len) (timed_accesses cell address calls) order
+      → (own : List Call) × ExplainsAccesses calls cell len address own
+  accesses_explained cell len calls order h = let found = explained_in_order cell len calls order h in (map call_at found.placed, found.explains)
 
   -- and the other way round
   pub timed_explained : (cell len : ℕ) (calls own : List Call) → ExplainsAccesses calls cell len address own

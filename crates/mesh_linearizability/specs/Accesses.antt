@@ -1,5 +1,5 @@
 -- The accesses to an object, as the calls that a timed judge follows.
-use Rattle.std.specs.Prelude.{ℕ, suc, if◌then◌else◌, ◌&&◌, nat_eq, Bool, List, [], ◌∷◌, length, map}
+use Rattle.std.specs.Prelude.{ℕ, suc, if◌then◌else◌, ◌&&◌, nat_eq, Bool, List, [], ◌∷◌, map}
 use Rattle.model_words.specs.declared.commands.Command.{Command}
 use Rattle.model_words.specs.declared.commands.Command.TheVariants.{Put, Get, Addr}
 use Rattle.model_words.specs.declared.commands.Reply.{Reply}

@@ -2,9 +2,15 @@ pub mod Accesses
 pub mod Begins
 pub mod Checks
 pub mod Ends
+pub mod Followed
 pub mod Judges
+pub mod Keys
 pub mod LifeSteps
 pub mod Lives
+pub mod OrderTexts
+pub mod Orders
+pub mod OwnOrders
+pub mod Points
 pub mod Queues
 pub mod Standing
 pub mod Timelines

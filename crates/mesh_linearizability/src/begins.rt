@@ -52,7 +52,7 @@ impl Timeline {
     }
 
     /// Handles the start of a `free`: the object of the cell is no longer live. Returns what must be done at the end of
-    /// the `free`. Returns an error if an allocation fails.
+    /// the `free`.
     fn free_begun(&mut self, cell: u32) -> Result<Pending, AllocError>
         ensures waiting { self.new.waiting ≡ self.old.waiting }
         ensures begun { IfOk result
@@ -71,7 +71,7 @@ impl Timeline {
     }
 
     /// Returns the flaw of a `free` whose cell has no live object. If the cell's object was already freed, records that
-    /// a second `free` has begun. Returns an error if an allocation fails.
+    /// a second `free` has begun.
     fn stray_free(&mut self, cell: u32) -> Result<OutsideLife, AllocError>
         ensures waiting { self.new.waiting ≡ self.old.waiting }
         ensures lives { self.new.lives ≡ self.old.lives }
@@ -138,7 +138,7 @@ fn begin_in(
     Ok(true)
 }
 
-/// Returns the access that an entry records, to the object at this address. Returns an error if an allocation fails.
+/// Returns the access that an entry records, to the object at this address.
 pub fn access_of(address: u64, entry: &RecordedEntry) -> Result<Access, AllocError>
     requires access { is_access (plain_command entry.now.command) ≡ true }
     requires effect { HasEffect (plain_command entry.now.command) (plain_reply entry.now.reply) }

@@ -52,8 +52,7 @@ impl Timeline {
         }
     }
 
-    /// Handles the end of a `new` that made an object. Returns the flaw that is found, if any. Returns an error if an
-    /// allocation fails.
+    /// Handles the end of a `new` that made an object. Returns the flaw that is found, if any.
     fn made(&mut self, object: NewObject) -> Result<Option<Flaw>, AllocError>
         ensures waiting { self.new.waiting ≡ self.old.waiting }
         ensures ended { IfOk result
@@ -90,8 +89,7 @@ impl Timeline {
         Ok(None)
     }
 
-    /// Handles the end of a `new` that was refused. Returns the flaw that is found, if any. Returns an error if an
-    /// allocation fails.
+    /// Handles the end of a `new` that was refused. Returns the flaw that is found, if any.
     fn refused(&mut self, cell: u32, len: u64, refusal: Refusal) -> Result<Option<Flaw>, AllocError>
         ensures waiting { self.new.waiting ≡ self.old.waiting }
         ensures ended { IfOk result

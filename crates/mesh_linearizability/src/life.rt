@@ -46,7 +46,7 @@ impl Life {
         Ok(())
     }
 
-    /// Gives the object a judge if it has none. Returns an error if an allocation fails.
+    /// Gives the object a judge if it has none.
     fn give_judge(&mut self, alloc: Global) -> Result<(), AllocError>
         ensures object { self.new.object ≡ self.old.object }
         ensures given { OnOk result (HasJudge self.old self.new) }

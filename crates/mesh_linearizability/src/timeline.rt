@@ -125,7 +125,7 @@ fn first_before(waiting: &mut BTreeMap<u128, Pending>, moment: u128) -> Option<(
     Some(((key % NUMBERS) as u32, pending))
 }
 
-/// Inserts a value under a key. Returns an error if an allocation fails.
+/// Inserts a value under a key.
 pub(crate) fn set<K: Ord + Drop, T: Drop>(
     map: &mut BTreeMap<K, T>,
     key: K,
@@ -137,7 +137,7 @@ pub(crate) fn set<K: Ord + Drop, T: Drop>(
     Ok(())
 }
 
-/// Adds a number to a set unless the set has it. Returns an error if an allocation fails.
+/// Adds a number to a set unless the set has it.
 pub(crate) fn add(set: &mut NumberSet, number: u32) -> Result<(), AllocError>
     ensures { OnOk result ((n : ℕ) → Has set.new n ↔ ((n ≡ number) ⊎ Has set.old n)) }
 {

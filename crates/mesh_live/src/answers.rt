@@ -5,7 +5,7 @@ ghost use Rattle.mesh_live.specs.Answers.{fault_text};
 use model_words::FaultKind;
 use std::alloc::AllocError;
 
-/// Appends `fault KIND`. The only error is an allocation failure.
+/// Appends `fault KIND`.
 pub(crate) fn add_fault(text: &mut Vec<u8>, kind: FaultKind) -> Result<(), AllocError>
     ensures { OnOk result (text.new.items ≡ text.old.items ++ fault_text kind) }
 {

@@ -6,7 +6,7 @@ use crate::Sizes;
 use mesh_job::{Job, Plan, Script, Scripts, Version};
 use std::alloc::{AllocError, Global};
 
-/// A job of these sizes, with empty scripts and an empty plan. The only error is an allocation failure.
+/// A job of these sizes, with empty scripts and an empty plan.
 pub(crate) fn idle_job(alloc: Global, sizes: &Sizes) -> Result<Job, AllocError>
     requires { HasFairSizes sizes.now }
     ensures { IfOk result (λ job. job ≡ job_of sizes.now) }
@@ -20,7 +20,7 @@ pub(crate) fn idle_job(alloc: Global, sizes: &Sizes) -> Result<Job, AllocError>
     })
 }
 
-/// An empty script for each of `workers` workers. The only error is an allocation failure.
+/// An empty script for each of `workers` workers.
 fn idle_scripts(alloc: Global, workers: u32) -> Result<Scripts, AllocError>
     requires some { 1 ≤ workers }
     requires few { workers ≤ 64 }

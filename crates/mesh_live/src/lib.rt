@@ -3,6 +3,8 @@
 //! A line is an attempt of a worker at a command, or a call of the mesher as in a plan of version 2. Each answer is the
 //! one that the definitions of jobs give, whatever lines came before. A line of any other form is answered with its
 //! fault, and changes nothing.
+//!
+//! An `AllocError` means that an allocation failed.
 #![tactic(auto)]
 
 mod answers;

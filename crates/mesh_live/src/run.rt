@@ -80,7 +80,7 @@ fn live_on<I: Source, O: Sink>(
     write_rest(alloc, line.as_slice(), output)
 }
 
-/// Returns a buffer for the bytes of one read. The only error is an allocation failure.
+/// Returns a buffer for the bytes of one read.
 fn room_to_read(alloc: Global) -> Result<Vec<u8>, AllocError>
     ensures { IfOk result (λ room. vec_len room ≡ 16384) }
 {
@@ -160,7 +160,7 @@ fn take_bytes<O: Sink>(
     Ok(false)
 }
 
-/// Adds a byte to a line, unless the line already has more than 1,024 bytes. The only error is an allocation failure.
+/// Adds a byte to a line, unless the line already has more than 1,024 bytes.
 fn keep(line: &mut Vec<u8>, byte: u8) -> Result<(), AllocError>
     requires { byte ≢ 10 }
     ensures { OnOk result (Keeps line.old.items byte line.new.items) }

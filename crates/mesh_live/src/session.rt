@@ -30,7 +30,7 @@ impl Drop for Session {
 }
 
 impl Session {
-    /// Opens a session over a fresh heap. The only error is an allocation failure.
+    /// Opens a session over a fresh heap.
     pub fn open(alloc: Global, sizes: &Sizes) -> Result<Session, AllocError>
         requires { HasFairSizes sizes.now }
         ensures sizes { IfOk result (λ session. sizes_of session ≡ sizes.now) }
@@ -62,8 +62,7 @@ impl Session {
     /// `history full` are answers too. A line of any other form changes nothing. Its answer is `fault KIND`, with the
     /// kind that a reader of job files reports.
     ///
-    /// The only error is an allocation failure. It may occur after the effect of the line, so the session can't
-    /// continue after an error.
+    /// It may occur after the effect of the line, so the session can't continue after an error.
     pub fn answer(
         &mut self,
         alloc: Global,

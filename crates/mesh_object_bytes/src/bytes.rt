@@ -117,7 +117,7 @@ impl ObjectBytes {
         bytes == self.load(off, bytes.len() as u32).as_slice()
     }
 
-    /// Returns a copy in which `bytes` are stored at offset `off`. The only error is an allocation failure.
+    /// Returns a copy in which `bytes` are stored at offset `off`.
     pub(crate) fn stored(
         &self,
         alloc: Global,
@@ -136,7 +136,7 @@ impl ObjectBytes {
         })
     }
 
-    /// Returns a copy. The only error is an allocation failure.
+    /// Returns a copy.
     pub(crate) fn copied(&self, alloc: Global) -> Result<ObjectBytes, AllocError>
         ensures { IfOk result (λ copy. copy ≡ self.now) }
     {
@@ -148,7 +148,7 @@ impl ObjectBytes {
     }
 }
 
-/// Stores `bytes` in the chunks at offset `off`. The only error is an allocation failure.
+/// Stores `bytes` in the chunks at offset `off`.
 fn store_in(chunks: &mut Vec<Chunk>, off: u64, bytes: &[u8]) -> Result<(), AllocError>
     requires { length bytes.now ≤ 32 }
     ensures { OnOk result (chunks.new.items ≡ stored chunks.old.items off bytes.now) }

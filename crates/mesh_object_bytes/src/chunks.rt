@@ -42,7 +42,7 @@ fn all_bytes(bytes: &[u8; CHUNK_BYTES]) -> &[u8]
     bytes.as_slice()
 }
 
-/// Stores bytes in the chunk with this number, starting at `place`. The only error is an allocation failure.
+/// Stores bytes in the chunk with this number, starting at `place`.
 pub(crate) fn store_run(
     chunks: &mut Vec<Chunk>,
     number: u64,

@@ -2,6 +2,8 @@
 //!
 //! An access to the object is recorded as an [`Access`]. [`ObjectAccesses`] defines the effects of accesses on
 //! [`ObjectBytes`].
+//!
+//! An `AllocError` means that an allocation failed.
 #![tactic(auto)]
 
 mod access;

@@ -3,7 +3,9 @@ use Rattle.std.specs.Prelude.{◌≡◌, ◌<◌, ◌≤◌, ◌⊎◌, ℕ, Lis
 use Rattle.std.specs.Io.KnownBytes.{Appends}
 use Rattle.model_jobs.specs.Texts.{ended}
 use Rattle.mesh_devices.specs.Transfer.{HasReadAll}
-use Rattle.mesh_judge.specs.OrderedHistories.{IsOrderedHistory}
+use Rattle.mesh_linearizability.specs.Checks.{IsLinearizableText}
+use Rattle.mesh_judge.specs.OrderedHistories.{HasNoAnswer, IsOrderedHistory}
+use Rattle.mesh_judge.specs.declared.order_faults.OrderFault.TheVariants.{Undecided}
 use Rattle.mesh_judge.specs.JudgementTexts.{judgement_text}
 use Rattle.mesh_judge.specs.declared.judging.Judgement.{Judgement}
 use Rattle.mesh_run.specs.Checks.{check_error_text, judgement_status, status_of_check}
@@ -23,11 +25,15 @@ abbrev pub HasWrittenVerdict : ℕ → Option (List ℕ) → Option (List ℕ) �
 HasWrittenVerdict most written written' status =
     (judgement : Judgement) × Appends written written' (judgement_text most judgement) × (status ≡ judgement_status judgement)
 
--- the input was read to its end, and either an order of the calls of its text was written, or a judgement with this
--- status
+-- no order was found. No order explains the text's calls, or a limit of the search was exceeded
+abbrev pub HasNoOrder : List ℕ → ℕ → Type 0
+HasNoOrder text most = ((entries : ℕ) → IsLinearizableText text entries → ⊥) ⊎ HasNoAnswer text most Undecided
+
+-- the input was read to its end. Either an order of the calls of its text was written, or no order was found and a
+-- judgement with this status was written
 abbrev pub HasToldOrder : ℕ → Option (List ℕ) → Option (List ℕ) → Option (List ℕ) → Option (List ℕ) → ℕ → Type 0
 HasToldOrder most left left' written written' status =
-    (text : List ℕ) × HasReadAll left left' text × (HasWrittenOrder text written written' status ⊎ HasWrittenVerdict most written written' status)
+    (text : List ℕ) × HasReadAll left left' text × (HasWrittenOrder text written written' status ⊎ (HasNoOrder text most × HasWrittenVerdict most written written' status))
 
 -- an order or a judgement with this status was written, no device failed, and no message was printed
 abbrev pub HasEndedWell : ℕ → Seen → Seen → ℕ → Type 0

@@ -3,6 +3,8 @@
 //! Nothing in this crate opens a file or prints by itself. The program passes in a source for the file, sinks for
 //! standard output and standard error, and the arguments that `mesh_command_line` reads from the words of the command
 //! line. The program exits with the returned status.
+//!
+//! An `AllocError` means that an allocation failed.
 #![tactic(auto)]
 
 mod check;

@@ -1,6 +1,7 @@
 //! The program's order of the overlapping calls of a history.
-ghost use Rattle.std.specs.Prelude.{◌≡◌, ◌≤◌, false, IfOk, OnOk};
-ghost use Rattle.mesh_run.specs.Orders.{EndsOrder, HasToldOrder};
+ghost use Rattle.std.specs.Prelude.{◌≡◌, ◌≤◌, false, IfOk, IfSome, IsNone, OnOk};
+ghost use Rattle.mesh_judge.specs.OrderedHistories.{IsOrderedHistory};
+ghost use Rattle.mesh_run.specs.Orders.{EndsOrder, HasNoOrder, HasToldOrder};
 ghost use Rattle.mesh_run.specs.Runs.{IsSound};
 
 use crate::Devices;
@@ -8,8 +9,8 @@ use crate::check::{check_line_of, status_of_check, write_verdict};
 use crate::check_error::CheckError;
 use crate::runs::tell;
 use mesh_command_line::status::DONE;
-use mesh_devices::{Input, Sink, Source, read_all, write_lines};
-use mesh_judge::{Begun, ordered_history};
+use mesh_devices::{Input, ReplayError, Sink, Source, read_all, write_lines};
+use mesh_judge::{Begun, OrderFault, ordered_history};
 use std::alloc::Global;
 
 /// Writes the calls of the history in the input in an order that explains them, as a history of version 1, and returns
@@ -48,10 +49,23 @@ fn write_order<I: Source, O: Sink>(
     ensures small { IfOk result (λ status. status ≤ 1) }
 {
     let text = read_all(alloc, input)?;
-    if let Some(history) = ordered_history(alloc, text.as_slice(), most as usize)? {
+    if let Some(history) = order_in(alloc, text.as_slice(), most)? {
         write_lines(output, history.as_slice())?;
         return Ok(DONE);
     }
     let mut source = Begun::new(Input::new(text.as_slice()));
     write_verdict(alloc, most, &mut source, output)
+}
+
+/// Returns the calls of a text in an order that explains them, or `None` if no order is found.
+fn order_in(alloc: Global, text: &[u8], most: u32) -> Result<Option<Vec<u8>>, CheckError>
+    ensures ordered { IfOk result (λ found. IfSome found (λ history. IsOrderedHistory text.now history.items)) }
+    ensures none { IfOk result (λ found. IsNone found → HasNoOrder text.now most) }
+{
+    match ordered_history(alloc, text, most as usize) {
+        Ok(found) => Ok(found),
+        Err(OrderFault::Undecided) => Ok(None),
+        Err(OrderFault::Read) => Err(CheckError::Replay(ReplayError::Read)),
+        Err(OrderFault::Memory) => Err(CheckError::Replay(ReplayError::Memory)),
+    }
 }

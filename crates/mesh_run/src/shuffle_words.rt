@@ -13,7 +13,7 @@ const ROUND_WORDS: usize = 256;
 /// Returns 256 words for each of this number of rounds. They are the first outputs of xoshiro256++ (Blackman and
 /// Vigna), seeded by SplitMix64 from this seed.
 ///
-/// The Rust crate `rand_xoshiro` returns the same words. The only error is an allocation failure.
+/// The Rust crate `rand_xoshiro` returns the same words.
 pub fn words(alloc: Global, seed: u64, rounds: u32) -> Result<Vec<u64>, AllocError>
     ensures { IfOk result (λ words. words.items ≡ words_of seed rounds) }
 {

@@ -150,8 +150,7 @@ fn run_job<R: Threads + Wait + Sync>(
     Ok(text)
 }
 
-/// Returns the text of a history: the answers of each of this number of workers, or the recorded history. The only
-/// error is an allocation failure.
+/// Returns the text of a history: the answers of each of this number of workers, or the recorded history.
 fn text_of(
     alloc: Global,
     printed: Printed,

@@ -114,7 +114,7 @@ fn patterns(alloc: Global, texts: &[&str]) -> Result<Vec<Pattern>, VerdictError>
     Ok(patterns)
 }
 
-/// Adds a pattern. The only error is an allocation failure.
+/// Adds a pattern.
 fn add(patterns: &mut Vec<Pattern>, pattern: Pattern) -> Result<(), AllocError>
     ensures { OnOk result (patterns.new.items ≡ patterns.old.items ++ pattern ∷ []) }
 {

@@ -34,7 +34,7 @@ fn free_at(placement: &mut Placement, place: (Span, Slot))
     }
 }
 
-/// Makes an object in a heap, in the slot that the heap chooses. Returns an error if an allocation fails.
+/// Makes an object in a heap, in the slot that the heap chooses.
 fn place(placement: &mut Placement, len: u32, word: u64) -> Result<(Span, Slot), AllocError>
     requires room { is_ok (place_new (table_of placement.old) len word placement.old.next_serial) ≡ true }
     requires serial { placement.old.next_serial < 2 ^ 32 - 1 }
@@ -48,7 +48,7 @@ fn place(placement: &mut Placement, len: u32, word: u64) -> Result<(Span, Slot),
 }
 
 impl TwoHeaps {
-    /// Returns both heaps without objects. Returns an error if an allocation fails.
+    /// Returns both heaps without objects.
     pub(crate) fn open(alloc: Global, shuffle_seed: u64) -> Result<TwoHeaps, AllocError>
         ensures heaps { IfOk result (λ heaps. heaps_of heaps ≡ empty_heaps shuffle_seed) }
         ensures without_serial { IfOk result (λ heaps. heaps.without.next_serial ≡ 0) }
@@ -81,7 +81,7 @@ impl TwoHeaps {
         self.without.has_room(len) && self.mesher.placement.has_room(len)
     }
 
-    /// Makes an object of this length in both heaps, with the same word. Returns an error if an allocation fails.
+    /// Makes an object of this length in both heaps, with the same word.
     pub(crate) fn new(&mut self, len: u32, word: u64) -> Result<Places, AllocError>
         requires serials { HaveSerial self.old }
         requires without { is_ok (place_new (table_of self.old.without) len word self.old.without.next_serial) ≡ true }
@@ -106,8 +106,6 @@ impl TwoHeaps {
 
     /// Makes a round. It removes the empty groups of both heaps, and then searches and meshes each class of the heap
     /// that meshes.
-    ///
-    /// Returns an error if an allocation fails.
     fn round(&mut self, alloc: Global, probe: u32) -> Result<(), AllocError>
         requires { Fits self.old.mesher.counts 327680 }
         ensures value { OnOk result (heaps_of self.new ≡ after_round probe (heaps_of self.old)) }
@@ -119,7 +117,7 @@ impl TwoHeaps {
         self.mesher.mesh_classes(alloc, probe)
     }
 
-    /// Frees an object in both heaps, and makes a round if `is_due`. Returns an error if an allocation fails.
+    /// Frees an object in both heaps, and makes a round if `is_due`.
     pub(crate) fn free_and_round(
         &mut self,
         alloc: Global,

@@ -1,4 +1,6 @@
 //! Replays the allocations of a recorded program on two heaps side by side: one that meshes and one that doesn't.
+//!
+//! An `AllocError` means that an allocation failed.
 #![tactic(auto)]
 
 mod calls;

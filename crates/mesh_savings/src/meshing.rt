@@ -52,7 +52,7 @@ impl Mesher {
         }
     }
 
-    /// Searches a class, and meshes the pairs that the search finds. Returns an error if an allocation fails.
+    /// Searches a class, and meshes the pairs that the search finds.
     fn mesh_class(&mut self, alloc: Global, probe: u32, class: Class) -> Result<(), AllocError>
         requires { Fits self.old.counts 32768 }
         ensures value { OnOk result (meshing_of self.new ≡ class_meshed probe (meshing_of self.old) class) }
@@ -66,8 +66,7 @@ impl Mesher {
         Ok(())
     }
 
-    /// Searches each class, from the smallest to the largest, and meshes the pairs that the searches find. Returns an
-    /// error if an allocation fails.
+    /// Searches each class, from the smallest to the largest, and meshes the pairs that the searches find.
     pub(crate) fn mesh_classes(&mut self, alloc: Global, probe: u32) -> Result<(), AllocError>
         requires { Fits self.old.counts 327680 }
         ensures value { OnOk result (meshing_of self.new ≡ classes_meshed probe (meshing_of self.old) class_sizes) }

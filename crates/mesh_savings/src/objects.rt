@@ -55,7 +55,7 @@ impl Objects {
         }
     }
 
-    /// Adds a live object, and stores its number in the cell. Returns an error if an allocation fails.
+    /// Adds a live object, and stores its number in the cell.
     pub(crate) fn add(&mut self, cell: u32, number: u32, object: Object) -> Result<(), AllocError>
         ensures cells { OnOk result ((c : ℕ) → cell_of self.new c ≡ with_at cell (Some number) (cell_of self.old) c) }
         ensures live { OnOk result
@@ -67,7 +67,7 @@ impl Objects {
     }
 
     /// Copies the number of the live object in the cell `from` to the cell `to`. Returns whether `from` holds a live
-    /// object. Returns an error if an allocation fails.
+    /// object.
     pub(crate) fn alias(&mut self, to: u32, from: u32) -> Result<bool, AllocError>
         ensures aliased { IfOk result (λ done. IsAliased self.old self.new to done (number_in self.old from)) }
     {

@@ -45,7 +45,7 @@ impl Drop for Savings {
 }
 
 impl Savings {
-    /// Returns a replay with two empty heaps. Returns an error if an allocation fails.
+    /// Returns a replay with two empty heaps.
     pub fn new(alloc: Global, settings: Settings) -> Result<Savings, AllocError>
         ensures follows { IfOk result (λ savings. Follows savings (start settings)) }
         ensures settings { IfOk result (λ savings. savings.settings ≡ settings) }
@@ -76,7 +76,7 @@ impl Savings {
     /// A call that can't be made changes nothing. The result is `NoObject` for a `free` or an `alias` if the cell holds
     /// no live object. It is `NoAddresses` for a `new` of up to 2,048 bytes if a heap has too few virtual pages left.
     ///
-    /// Returns an error if an allocation fails. After an error, the state of the heaps is unspecified.
+    /// After an error, the state of the heaps is unspecified.
     pub fn take(&mut self, call: &Call) -> Result<Taken, AllocError>
         requires { HasNumbers self.old }
         ensures taken { (f : Followed) → Follows self.old f
@@ -128,7 +128,7 @@ impl Savings {
     }
 
     /// Stores in the cell `to` the reference to the live object that `from` holds. Returns `NoObject` if `from` holds
-    /// no live object. Returns an error if an allocation fails.
+    /// no live object.
     fn alias(&mut self, to: u32, from: u32) -> Result<Taken, AllocError>
         requires { HasNumbers self.old }
         ensures taken { (f : Followed) → Follows self.old f
@@ -144,7 +144,7 @@ impl Savings {
     }
 
     /// Frees the live object that a cell holds, and makes a round if it is due. Returns `NoObject` if the cell holds no
-    /// live object. Returns an error if an allocation fails.
+    /// live object.
     fn free(&mut self, cell: u32) -> Result<Taken, AllocError>
         requires { HasNumbers self.old }
         ensures taken { (f : Followed) → Follows self.old f
@@ -167,7 +167,7 @@ impl Savings {
         Ok(Taken::Made)
     }
 
-    /// Counts an object above 2,048 bytes, which neither heap gets. Returns an error if an allocation fails.
+    /// Counts an object above 2,048 bytes, which neither heap gets.
     fn new_large(&mut self, cell: u32, len: u64) -> Result<Taken, AllocError>
         requires { HasNumbers self.old }
         ensures taken { (f : Followed) → Follows self.old f
@@ -182,7 +182,6 @@ impl Savings {
     }
 
     /// Makes an object of up to 2,048 bytes in both heaps. Returns `NoAddresses` if a heap has no room for the object.
-    /// Returns an error if an allocation fails.
     fn new_small(&mut self, cell: u32, len: u32, class: Class) -> Result<Taken, AllocError>
         requires numbers { HasNumbers self.old }
         requires some { 1 ≤ len }

@@ -17,7 +17,7 @@ pub(crate) fn seeded(seed: u64) -> Xoshiro256PlusPlus
     Xoshiro256PlusPlus::seed_from_u64(seed)
 }
 
-/// Returns the next `count` words of a generator. Returns an error if an allocation fails.
+/// Returns the next `count` words of a generator.
 pub(crate) fn draw(
     alloc: Global,
     generator: &mut Xoshiro256PlusPlus,

@@ -21,8 +21,7 @@ pub(crate) enum Gathered {
 }
 
 impl Gathered {
-    /// Returns the data before the first sample, in the form that the options ask for. The only error is an allocation
-    /// failure.
+    /// Returns the data before the first sample, in the form that the options ask for.
     pub(crate) fn new(alloc: Global, options: &SavingsOptions) -> Result<Gathered, AllocError>
         ensures { IfOk result (λ gathered. IsOf gathered options.now []) }
     {
@@ -59,7 +58,7 @@ impl Gathered {
     }
 
     /// Returns the text of the table or of the plot. A table also shows `counts`, the counts of the whole run. A plot
-    /// shows no counts. The only error is an allocation failure.
+    /// shows no counts.
     pub(crate) fn text(&self, alloc: Global, counts: &Counts) -> Result<Vec<u8>, AllocError>
         ensures { (options : SavingsOptions) (samples : List Sample) → IsOf self.now options samples
             → IfOk result (λ text. IsShownAs options.form options.window samples counts.now text.items) }

@@ -4,6 +4,8 @@
 //! `gathered` keeps the samples in the form that `options` asks for. `runs` makes each call on the heap that meshes and
 //! on the heap that doesn't. `inputs` reads a history from a device and passes its calls to `runs`. `reports` and
 //! `errors` define the results, and `laws` contains lemmas about every sample.
+//!
+//! An `AllocError` means that an allocation failed.
 #![tactic(auto)]
 
 mod errors;

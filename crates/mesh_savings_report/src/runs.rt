@@ -28,7 +28,7 @@ pub(crate) struct Run {
 }
 
 impl Run {
-    /// Returns a run before its first call. The only error is an allocation failure.
+    /// Returns a run before its first call.
     pub(crate) fn new(alloc: Global, options: &SavingsOptions) -> Result<Run, AllocError>
         ensures { IfOk result (λ run. IsRun run options.now (start options.now.settings) []) }
     {
@@ -56,7 +56,7 @@ impl Run {
     }
 
     /// Makes the next call in both heaps, and adds a sample. If the call can't be made, changes nothing and returns the
-    /// reason: `NoObject` or `NoAddresses`. The only error is an allocation failure.
+    /// reason: `NoObject` or `NoAddresses`.
     pub(crate) fn take(&mut self, call: &Call) -> Result<Taken, AllocError>
         requires { HasRoom self.old }
         ensures { IfOk result (IsTakenBy self.old self.new (λ options f. step options.settings f call.now)) }
@@ -100,7 +100,7 @@ impl Run {
         }
     }
 
-    /// Returns the table or the plot of the calls so far, as text. The only error is an allocation failure.
+    /// Returns the table or the plot of the calls so far, as text.
     pub(crate) fn text(&self, alloc: Global) -> Result<Vec<u8>, AllocError>
         ensures { (options : SavingsOptions) (f : Followed) (samples : List Sample) → IsRun self.now options f samples
             → IfOk result (λ text. IsShown options f samples text.items) }

@@ -15,8 +15,7 @@ use text_words::{add_decimal, add_reply};
 /// all entries.
 ///
 /// A new object is printed as `object`, and an address as `at`, because serials and addresses depend on the scheduling
-/// of the threads. Any other answer is printed as in a replay. The history is traversed once. The only error is an
-/// allocation failure.
+/// of the threads. Any other answer is printed as in a replay. The history is traversed once.
 pub fn history_lines(alloc: Global, workers: u32, history: &[Entry]) -> Result<Vec<u8>, AllocError>
     requires { All (λ entry. entry.worker < workers) history.now }
     ensures { IfOk result (λ text. text.items ≡ history_text workers history.now) }

@@ -6,6 +6,8 @@
 //! `history_lines` returns the text of a history in which each worker's answers are together. `recorded_history`
 //! returns the text of a history whose entries are in order, each with its command. Every error is an allocation
 //! failure.
+//!
+//! An `AllocError` means that an allocation failed.
 #![tactic(auto)]
 
 mod answers;

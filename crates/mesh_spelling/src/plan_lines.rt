@@ -8,7 +8,7 @@ use mesh_job::{PlanLine, Search};
 use std::alloc::AllocError;
 use text_words::{add_named, add_numbers};
 
-/// Adds a line of a plan, as a job file spells it. The only error is an allocation failure.
+/// Adds a line of a plan, as a job file spells it.
 pub fn add_plan_line(text: &mut Vec<u8>, line: &PlanLine) -> Result<(), AllocError>
     ensures { OnOk result (text.new.items ≡ text.old.items ++ line_text (line_of line.now)) }
 {

@@ -9,8 +9,7 @@ use text_words::{add_command, add_decimal, add_reply};
 
 /// The lines of a recorded history, each with a line end: `history 1`, and for each entry `W COMMAND -> ANSWER`.
 ///
-/// A command is spelt as in a job file, and an answer as in a replay, with serials and addresses. The only error is an
-/// allocation failure.
+/// A command is spelt as in a job file, and an answer as in a replay, with serials and addresses.
 pub fn recorded_history(alloc: Global, history: &[Entry]) -> Result<Vec<u8>, AllocError>
     ensures { IfOk result (λ text. text.items ≡ recorded_text history.now) }
 {
@@ -21,7 +20,7 @@ pub fn recorded_history(alloc: Global, history: &[Entry]) -> Result<Vec<u8>, All
     Ok(text)
 }
 
-/// The lines of the recorded history in a journal. The only error is an allocation failure.
+/// The lines of the recorded history in a journal.
 pub fn recorded_journal(alloc: Global, journal: &Journal) -> Result<Vec<u8>, AllocError>
     ensures { IfOk result (λ text. text.items ≡ recorded_text journal.now.entries) }
 {

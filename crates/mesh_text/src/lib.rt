@@ -10,6 +10,8 @@
 //! `mesh_job` defines the job and reads its file. `mesh_spelling` defines the text of an answer. In contracts, an input
 //! device has the bytes that are left to read, and an output device has the bytes that it has accepted, as far as these
 //! bytes are known. Each device also has a flag that is true if a call of the device has failed.
+//!
+//! An `AllocError` means that an allocation failed.
 #![tactic(auto)]
 
 mod mesher;

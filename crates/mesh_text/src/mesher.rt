@@ -13,8 +13,7 @@ use mesh_steps::StepDone;
 use model_words::{Refusal, Version};
 use std::alloc::{AllocError, Global};
 
-/// Searches a class for pairs of groups that can be meshed. The book isn't changed. The only error is an allocation
-/// failure.
+/// Searches a class for pairs of groups that can be meshed. The book isn't changed.
 pub(crate) fn pair(alloc: Global, book: &Book, asked: &Search) -> Result<Found, AllocError>
     ensures { IfOk result
         (λ found. IsCall (λ state.

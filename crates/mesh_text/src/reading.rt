@@ -35,8 +35,7 @@ pub fn read_job<I: Source>(alloc: Global, input: &mut I) -> Result<Job, ReplayEr
     Ok(reading.finish(&buffer[..held])?)
 }
 
-/// Returns a buffer with room for the start of a line, followed by the bytes of one read. The only error is an
-/// allocation failure.
+/// Returns a buffer with room for the start of a line, followed by the bytes of one read.
 fn room_to_read(alloc: Global) -> Result<Vec<u8>, AllocError>
     ensures { IfOk result (λ room. vec_len room ≡ 17408) }
 {
@@ -76,7 +75,7 @@ fn read_pieces<I: Source>(
 }
 
 /// Passes the whole lines among the first `held` bytes of a buffer to `reading`, and moves the remaining bytes to the
-/// buffer's front. Returns the number of remaining bytes. The only error is an allocation failure.
+/// buffer's front. Returns the number of remaining bytes.
 fn take_lines(reading: &mut Reading, buffer: &mut [u8], held: usize) -> Result<usize, AllocError>
     requires sound { IsReading reading.old }
     requires held { held ≤ length buffer.old }

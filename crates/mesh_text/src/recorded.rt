@@ -58,8 +58,7 @@ fn record<O: Sink>(alloc: Global, job: &Job, output: &mut O) -> Result<(), Repla
     write_lines(output, text.as_slice())
 }
 
-/// Runs the plan of a job on a fresh heap, and returns the recorded history of its journal. The only error is an
-/// allocation failure.
+/// Runs the plan of a job on a fresh heap, and returns the recorded history of its journal.
 fn recorded_play(alloc: Global, job: &Job) -> Result<Vec<u8>, AllocError>
     ensures { IfOk result (λ text. text.items ≡ recorded_text (journal_of job.now)) }
 {
@@ -68,7 +67,7 @@ fn recorded_play(alloc: Global, job: &Job) -> Result<Vec<u8>, AllocError>
     recorded_journal(alloc, turns.book().journal())
 }
 
-/// Runs all lines of a job's plan, and discards the answers. The only error is an allocation failure.
+/// Runs all lines of a job's plan, and discards the answers.
 fn play_all(alloc: Global, job: &Job, turns: &mut Turns) -> Result<(), AllocError>
     requires { StandsBehind job.now 0 turns.old }
     ensures { OnOk result (StandsBehind job.now (length job.now.plan) turns.new) }

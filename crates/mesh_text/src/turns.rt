@@ -29,7 +29,7 @@ impl Drop for Turns {
 }
 
 impl Turns {
-    /// Returns a fresh heap, with each worker at the start of its script. The only error is an allocation failure.
+    /// Returns a fresh heap, with each worker at the start of its script.
     pub fn open(alloc: Global, job: &Job) -> Result<Turns, AllocError>
         ensures workers { IfOk result (λ turns. worker_count turns ≡ length job.now.scripts) }
         ensures initial_state { IfOk result
@@ -66,7 +66,7 @@ impl Turns {
     }
 
     /// Runs the line at `place`, counted from 0, of a job's plan. Replaces the content of `text` with the answer,
-    /// without a line end. All earlier lines must have been run. The only error is an allocation failure.
+    /// without a line end. All earlier lines must have been run.
     pub fn play(
         &mut self,
         alloc: Global,
@@ -84,8 +84,7 @@ impl Turns {
         self.answer(alloc, job, &job.plan.lines()[place], text)
     }
 
-    /// Runs a line as if it were the next line of the plan, and appends its answer, without a line end. The only error
-    /// is an allocation failure.
+    /// Runs a line as if it were the next line of the plan, and appends its answer, without a line end.
     pub fn answer(
         &mut self,
         alloc: Global,
@@ -130,7 +129,7 @@ impl Turns {
     }
 
     /// Attempts a command that is in no script, for a worker whose script is over. Appends the answer, without a line
-    /// end. The only error is an allocation failure.
+    /// end.
     pub fn attempt(
         &mut self,
         worker: u32,
@@ -156,7 +155,6 @@ impl Turns {
 
     /// Attempts a worker's next command, and appends the answer, or `over` if the worker has no command left. If the
     /// attempt gets a reply, the worker's place is advanced to the next command. Otherwise, the place stays the same.
-    /// The only error is an allocation failure.
     fn run(&mut self, worker: u32, script: &Script, text: &mut Vec<u8>) -> Result<(), AllocError>
         requires { worker < vec_len self.old.next }
         ensures workers { vec_len self.new.next ≡ vec_len self.old.next }

@@ -36,7 +36,7 @@ in_below : (calls : ℕ) (ns : List ℕ) (i : ℕ) → AreBelow calls ns → IsI
 in_below calls [] i below at = absurd at
 in_below calls (n ∷ ns) i below at = elim at [ inl same ↦ subst (λ k. k < calls) same below.0 | inr later ↦ in_below calls ns i below.1 later ]
 
-listed_below : {X : Type 0} → (xs : List X) (k n i : ℕ) → k + length xs ≤ n → IsIn i (listed (λ m. m) k xs) → i < n
+pub listed_below : {X : Type 0} → (xs : List X) (k n i : ℕ) → k + length xs ≤ n → IsIn i (listed (λ m. m) k xs) → i < n
 listed_below [] k n i le at = absurd at
 listed_below (x ∷ xs) k n i le at = elim at [ inl same ↦ omega (arith, le, same) | inr later ↦ listed_below xs (suc k) n i (omega (arith, le)) later ]
 

@@ -10,3 +10,9 @@ pub mod Moved
 pub mod Fronts
 pub mod Unexplained
 pub mod Refuting
+pub mod Stepping
+pub mod OneEffect
+pub mod OrdersKept
+pub mod OrderExplains
+pub mod OrderedFirst
+pub mod OrderedEnd

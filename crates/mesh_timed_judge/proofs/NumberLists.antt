@@ -23,7 +23,7 @@ in_either i (n ∷ front) back at = elim at [
   | inr later ↦ elim (in_either i front back later) [ inl here ↦ inl (inr here) | inr there ↦ inr there ]
 ]
 
-in_front : (i : ℕ) (front back : List ℕ) → IsIn i front → IsIn i (front ++ back)
+pub in_front : (i : ℕ) (front back : List ℕ) → IsIn i front → IsIn i (front ++ back)
 in_front i [] back at = absurd at
 in_front i (n ∷ front) back at = elim at [ inl same ↦ inl same | inr later ↦ inr (in_front i front back later) ]
 
@@ -32,7 +32,7 @@ once_front [] back once = tt
 once_front (n ∷ front) back once = ((λ at. once.0 (in_front n front back at)), once_front front back once.1)
 
 -- one in the middle, and the others
-at_middle : (n : ℕ) (front back : List ℕ) → IsIn n (front ++ n ∷ back)
+pub at_middle : (n : ℕ) (front back : List ℕ) → IsIn n (front ++ n ∷ back)
 at_middle n [] back = inl refl
 at_middle n (x ∷ front) back = inr (at_middle n front back)
 

@@ -7,6 +7,8 @@ use Rattle.mesh_configurations.specs.declared.refutation.Refutation.{Refutation}
 use Rattle.mesh_configurations.specs.Refuted.{IsRefuted}
 use Rattle.mesh_configurations.specs.Standings.{Begins, CanGoOn, Ends, Event, Standing, effect_at, first_standing, had_effect}
 use Rattle.mesh_timed_judge.specs.TimedCalls.{Timed}
+use Rattle.mesh_configurations.specs.Ways.{AreWays}
+use Rattle.mesh_configurations.specs.declared.way.Way.{Way}
 
 -- the state of a timed judge: the state of its judge, and the number of the call that is pending at each place
 pub record TimedStanding (S C : Type 0) : Type 0 where
@@ -90,3 +92,24 @@ pub record IsJudgeOf {S C : Type 0} (effect : S → C → Option S) (start : S) 
   pub ended : (i : ℕ) (timed : Timed C) → slice_get calls i ≡ Some timed → HasEnded events i ↔ (IsOpen judge timed.number → ⊥)
   pub before : (i j : ℕ) (a b : Timed C) → slice_get calls i ≡ Some a → slice_get calls j ≡ Some b
       → EndsBefore 0 events i j ↔ ((IsOpen judge a.number → ⊥) × (a.end < b.begin))
+
+-- the judge of an object in this state, before the first call
+abbrev pub first_judge : {S C : Type 0} → S → TimedStanding S C
+first_judge start = record { standing = first_standing start; numbers = none_taken }
+
+-- a call took a free place, and the place has the call's number. The configurations are unchanged
+pub record TakesPlace {S C : Type 0} (number : ℕ) (call : C) (old new : TimedStanding S C) : Type 0 where
+  pub place : ℕ
+  pub free : slice_get old.numbers place ≡ Some None
+  pub no_call : slice_get old.standing.pending place ≡ Some None
+  pub numbers : new.numbers ≡ slice_set old.numbers place (Some number)
+  pub pending : new.standing.pending ≡ slice_set old.standing.pending place (Some call)
+  pub kept : new.standing.kept ≡ old.standing.kept
+
+-- the call with a number left its place. A way leads to each configuration that is left, from one that was kept
+pub record LeavesPlace {S C : Type 0} (effect : S → C → Option S) (number : ℕ) (old new : TimedStanding S C) (ways : List Way) : Type 0 where
+  pub place : ℕ
+  pub here : slice_get old.numbers place ≡ Some (Some number)
+  pub numbers : new.numbers ≡ slice_set old.numbers place None
+  pub pending : new.standing.pending ≡ slice_set old.standing.pending place None
+  pub lead : AreWays effect old.standing place new.standing.kept ways

@@ -1,3 +1,5 @@
 pub mod Following
+pub mod OrderedJudges
+pub mod Steps
 pub mod TimedCalls
 pub mod TimedLaws

@@ -38,7 +38,7 @@ impl Block {
         Block { bytes }
     }
 
-    /// Appends a line and a line end. The only error is an allocation failure.
+    /// Appends a line and a line end.
     pub(crate) fn add_line(&mut self, line: &[u8]) -> Result<(), AllocError>
         ensures { OnOk result (self.new ≡ self.old ++ ended line.now) }
     {
@@ -47,7 +47,7 @@ impl Block {
         Ok(())
     }
 
-    /// Returns a copy of the block. The only error is an allocation failure.
+    /// Returns a copy of the block.
     pub(crate) fn copied(&self) -> Result<Block, AllocError>
         ensures { IfOk result (λ copy. copy ≡ self.now) }
     {

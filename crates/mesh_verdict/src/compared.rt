@@ -20,7 +20,7 @@ pub(crate) fn pool_of(alloc: Global, blocks: &[Block]) -> Result<Pool<Block>, Al
     Ok(pool)
 }
 
-/// Returns the blocks that `others` doesn't contain, each once. The only error is an allocation failure.
+/// Returns the blocks that `others` doesn't contain, each once.
 pub(crate) fn absent(
     alloc: Global,
     blocks: &Pool<Block>,
@@ -38,8 +38,7 @@ pub(crate) fn absent(
     Ok(absent)
 }
 
-/// Returns the places of the blocks that `others` doesn't contain, in ascending order. The only error is an allocation
-/// failure.
+/// Returns the places of the blocks that `others` doesn't contain, in ascending order.
 pub(crate) fn places_absent(
     alloc: Global,
     blocks: &[Block],

@@ -15,7 +15,7 @@ struct Read {
     alloc: Global,
 }
 
-/// Returns the blocks of a text, in order. The only error is an allocation failure.
+/// Returns the blocks of a text, in order.
 pub(crate) fn blocks(alloc: Global, text: &[u8]) -> Result<Vec<Block>, AllocError>
     ensures { IfOk result (λ blocks. blocks.items ≡ blocks_of text.now) }
 {

@@ -91,7 +91,7 @@ pub(crate) fn outcome_at(outcomes: &[Outcome], at: usize) -> Outcome
     outcomes[at]
 }
 
-/// Returns the text of the workers' replies in the state at a place. The only error is an allocation failure.
+/// Returns the text of the workers' replies in the state at a place.
 pub(crate) fn text_at(
     alloc: Global,
     states: &Explorer<'_>,

@@ -1,4 +1,6 @@
 //! A verdict on the outcomes of an exploration.
+//!
+//! An `AllocError` means that an allocation failed.
 #![tactic(auto)]
 
 mod block;

@@ -16,7 +16,7 @@ use model_words::Reply;
 use std::alloc::{AllocError, Global};
 
 /// Returns the place, in a listing's outcomes, of the first outcome that matches one of the patterns. `None` if there
-/// is no such outcome. The only error is an allocation failure.
+/// is no such outcome.
 pub fn first_match(
     alloc: Global,
     reached: &Reached<Explorer<'_>>,

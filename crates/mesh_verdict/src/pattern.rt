@@ -28,7 +28,7 @@ impl Model for Pattern {
 
 impl Pattern {
     /// Returns the pattern that a text spells: `worker W: ANSWER | ANSWER ..`, with a worker from 0 to 63, at least one
-    /// answer, and `*` for any answer. `None` if the text spells no pattern. The only error is an allocation failure.
+    /// answer, and `*` for any answer. `None` if the text spells no pattern.
     pub fn spelt(alloc: Global, text: &[u8]) -> Result<Option<Pattern>, AllocError>
         ensures { IfOk result (λ pattern. pattern ≡ pattern_of text.now) }
     {

@@ -13,7 +13,7 @@ pub(crate) struct Report {
 }
 
 /// Returns the text of a verdict that fails: the missing outcomes, the unexpected outcomes, and the first outcome that
-/// matches a pattern. The only error is an allocation failure.
+/// matches a pattern.
 pub(crate) fn fault_text(
     alloc: Global,
     reached: &Reached<Explorer<'_>>,

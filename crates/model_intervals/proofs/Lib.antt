@@ -9,13 +9,13 @@ mod CellStates
 mod CellTimes
 mod ExampleTests
 mod ExplainedTest
-mod Filtered
+pub mod Filtered
 mod FormToRun
 mod FreedBetween
 pub mod GivenKeys
 mod HistoryTest
 mod Joined
-mod Lists
+pub mod Lists
 mod MemoryChanges
 mod Merged
 mod MiddleForm
@@ -23,7 +23,7 @@ mod NoOrder
 pub mod OneOrder
 mod Permuted
 mod Picks
-mod Places
+pub mod Places
 mod RunToForm
 mod SortedCalls
 mod StepFacts

@@ -1,8 +1,6 @@
-use Rattle.std.proofs.Common.{ℕ, ◌+◌, ◌++◌, ◌∙◌, ap, sym, decimal}
+use Rattle.std.proofs.Common.{ℕ, ◌+◌, ◌++◌, ◌∙◌, ap, decimal}
 use Rattle.std.proofs.lemmas.Result.{on_ok_weaker}
-use Rattle.mesh_linearizability.specs.declared.flaws.Flaw.{Flaw}
-use Rattle.mesh_judge.specs.FlawTexts.{flaw_text}
-use Rattle.mesh_judge.proofs.JudgementTexts.{overlap_told, told_if_ok}
+use Rattle.mesh_judge.proofs.JudgementTexts.{overlap_told}
 use Rattle.mesh_judge.proofs.flaw_texts.add_flaw.Goals as goal
 
 pub returns-in_ok-extend_from_slice-in-Overlaps-2 : goal.returns-in_ok-extend_from_slice-in-Overlaps-2

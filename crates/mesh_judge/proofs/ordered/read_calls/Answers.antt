@@ -3,6 +3,8 @@ use Rattle.std.specs.Prelude.{IfSome, IsNone, map}
 use Rattle.history_reading.specs.CallInputs.{HasEnded, HasNext}
 use Rattle.history_reading.specs.CallWords.{IsReadCall, plain_call}
 use Rattle.history_reading.specs.declared.words.TimedCall.{TimedCall}
+use Rattle.mesh_devices.proofs.LineSteps.{handed_on}
+use Rattle.mesh_judge.specs.OrderedHistories.{HasStoppedSomewhere}
 use Rattle.mesh_judge.proofs.CallsCome.{all_came, none_came, one_came}
 use Rattle.mesh_judge.proofs.ordered.read_calls.Goals as goal
 
@@ -25,10 +27,17 @@ loop-calls-preserved g c =
           c.in_ok-add.ensures;
     }
 
-pub returns : goal.returns
-returns g c =
+pub returns-clause-calls : goal.returns-clause-calls
+returns-clause-calls g c =
     let left = g.I.Source.remaining c.args.input.now in let left' = g.I.Source.remaining c.next.new.input in
     let far = c.loop-calls.invariant.come in
     let ended = subst (λ (o : Option TimedCall). IsNone o → HasEnded c.next.new.self left left' (map plain_call c.loop-calls.calls.items)) c.in_default.is
     (c.in_ok-call.ensures.ended left (map plain_call c.loop-calls.calls.items) far.come) refl in
     all_came c.loop-calls.history c.next.new.self left (g.I.Source.remaining c.loop-calls.input) left' c.loop-calls.calls.items far ended
+
+pub returns-in_err-call-clause-fault : goal.returns-in_err-call-clause-fault
+returns-in_err-call-clause-fault g c =
+    let left = g.I.Source.remaining c.args.input.now in let left' = g.I.Source.remaining c.next.new.input in
+    let far = c.loop-calls.invariant.come in let error = c.in_err-call.field-0.0 in
+    handed_on c.from_residual.result error (HasStoppedSomewhere left left') c.from_residual.ensures.1
+    (map plain_call c.loop-calls.calls.items, c.in_err-call.ensures.stopped left (map plain_call c.loop-calls.calls.items) far.come)

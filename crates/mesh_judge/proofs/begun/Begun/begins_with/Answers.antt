@@ -2,7 +2,6 @@ use Rattle.std.proofs.Common.{◌≡◌, ◌≤◌, ℕ, List, ◌∙◌, arith,
 use Rattle.std.specs.Prelude.{eqb}
 use Rattle.std.specs.Cmp.Lexicographic.{pointwise}
 use mathlib.Core.Bool.{true≢false}
-use Rattle.std.specs.Io.KnownBytes.{IsAtEnd}
 use Rattle.mesh_judge.proofs.BegunReads.{bytes_themselves, nothing_read, starts_otherwise}
 use Rattle.mesh_judge.proofs.begun.Begun.begins_with.Goals.{else-loop-next-test, then-loop-next-test+in_ok-read_some+then-branch-eq0}
 use Rattle.mesh_judge.proofs.begun.Begun.begins_with.Goals as goal

@@ -1,4 +1,4 @@
-use Rattle.std.proofs.Common.{refl, sym}
+use Rattle.std.proofs.Common.{refl}
 use Rattle.mesh_object_bytes.specs.ObjectBytes.{first_state}
 use Rattle.mesh_linearizability.proofs.life.Life.end.Goals as goal
 

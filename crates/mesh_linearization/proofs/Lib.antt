@@ -1,3 +1,0 @@
-mod InOrder
-mod OrderTexts
-mod SoFar
