@@ -57,8 +57,9 @@ abbrev pub order_fault_of : JudgeFault → OrderFault
 order_fault_of OutOfMemory = NoMemory
 order_fault_of fault = Undecided
 
--- why it isn't known whether some order explains the text's calls. The text has no fault, and has 2^32 - 1 calls or more,
--- or the judge of the accesses to some object stops. A fault of the device and an allocation failure claim nothing
+-- why it isn't known whether some order explains the text's calls. The text has no fault, and has 2^32 - 1 calls or
+-- more, or the judge of the accesses to some object stops. A fault of the device and an allocation failure claim
+-- nothing
 abbrev pub HasNoAnswer : List ℕ → ℕ → OrderFault → Type 0
 HasNoAnswer text most Undecided = (calls : List Call) × (calls_of text ≡ record { calls = calls; fault = None })
     × ((2 ^ 32 - 1 ≤ length calls) ⊎ IsStopped calls most TooMany ⊎ IsStopped calls most TooManyPending)

@@ -1,5 +1,5 @@
--- If orders explain the accesses of each object, and the points follow these orders, the calls sorted by their points are
--- a legal order.
+-- If orders explain the accesses of each object, and the points follow these orders, the calls sorted by their points
+-- are a legal order.
 use Rattle.std.proofs.Common.{ℕ, List, subst}
 use Rattle.model_intervals.specs.Intervals.{Call}
 use Rattle.model_intervals.specs.Objects.{Object, ExplainsAccesses, IsExplainedByObject, IsMadeAt}

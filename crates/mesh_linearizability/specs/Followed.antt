@@ -63,8 +63,8 @@ pub record IsRefutedAt {O : Type 0} (len : ℕ) (timeds : List (Timed Access)) (
   pub none : HasSome effect judge.judge → ⊥
   pub past : ArePast timeds moment judge.judge
 
--- why a judge of these accesses to an object of `len` bytes stops: more than `most` configurations are met at the end of
--- an access, or 64 accesses are pending when another begins. An allocation failure claims nothing
+-- why a judge of these accesses to an object of `len` bytes stops: more than `most` configurations are met at the end
+-- of an access, or 64 accesses are pending when another begins. An allocation failure claims nothing
 abbrev pub HasStoppedAt : ℕ → List (Timed Access) → ℕ → JudgeFault → Type 0
 HasStoppedAt len timeds most TooMany =
     (judge : TimedStanding State Access) × (number : ℕ) × IsJudgeOf effect (first_state len) timeds judge × HasMoreAtEnd effect judge number most

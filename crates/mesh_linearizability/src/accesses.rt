@@ -26,7 +26,8 @@ pub struct Made {
 
 /// Returns the object that a call made, or `None` if the call made no object.
 pub fn made_by(entry: &RecordedEntry) -> Option<Made>
-    ensures { result ≡ option_map made_of (object_made (plain_command entry.now.command) (plain_reply entry.now.reply)) }
+    ensures { result
+        ≡ option_map made_of (object_made (plain_command entry.now.command) (plain_reply entry.now.reply)) }
 {
     match (&entry.command, &entry.reply) {
         (SpeltCommand::New(cell, len, _), RecordedReply::Object(_, address)) => Some(Made {

@@ -1,14 +1,12 @@
 -- What a run writes if it is asked for an order of overlapping calls.
-use Rattle.std.specs.Prelude.{◌≡◌, ◌<◌, ◌≤◌, ◌⊎◌, ℕ, List, Option}
+use Rattle.std.specs.Prelude.{◌≡◌, ◌<◌, ◌≤◌, ◌⊎◌, ℕ, List, Option, Some}
 use Rattle.std.specs.Io.KnownBytes.{Appends}
 use Rattle.model_jobs.specs.Texts.{ended}
 use Rattle.mesh_devices.specs.Transfer.{HasReadAll}
 use Rattle.mesh_linearizability.specs.Checks.{IsLinearizableText}
 use Rattle.mesh_judge.specs.OrderedHistories.{HasNoAnswer, IsOrderedHistory}
 use Rattle.mesh_judge.specs.declared.order_faults.OrderFault.TheVariants.{Undecided}
-use Rattle.mesh_judge.specs.JudgementTexts.{judgement_text}
-use Rattle.mesh_judge.specs.declared.judging.Judgement.{Judgement}
-use Rattle.mesh_run.specs.Checks.{check_error_text, judgement_status, status_of_check}
+use Rattle.mesh_run.specs.Checks.{HasToldVerdict, check_error_text, status_of_check}
 use Rattle.mesh_run.specs.Runs.{HasTold, IsDone}
 use Rattle.mesh_run.specs.Seen.{Seen}
 use Rattle.mesh_run.specs.declared.check_error.CheckError.{CheckError}
@@ -20,10 +18,9 @@ pub record HasWrittenOrder (text : List ℕ) (written written' : Option (List �
   pub wrote : Appends written written' history
   pub done : status ≡ 0
 
--- the line of a judgement was written, and the judgement has this status
-abbrev pub HasWrittenVerdict : ℕ → Option (List ℕ) → Option (List ℕ) → ℕ → Type 0
-HasWrittenVerdict most written written' status =
-    (judgement : Judgement) × Appends written written' (judgement_text most judgement) × (status ≡ judgement_status judgement)
+-- the text was judged, the judgement's line was written, and the judgement has this status
+abbrev pub HasWrittenVerdict : List ℕ → ℕ → Option (List ℕ) → Option (List ℕ) → ℕ → Type 0
+HasWrittenVerdict text most written written' status = (rest : List ℕ) × HasToldVerdict most (Some text) (Some rest) written written' status
 
 -- no order was found. No order explains the text's calls, or a limit of the search was exceeded
 abbrev pub HasNoOrder : List ℕ → ℕ → Type 0
@@ -33,7 +30,7 @@ HasNoOrder text most = ((entries : ℕ) → IsLinearizableText text entries → 
 -- judgement with this status was written
 abbrev pub HasToldOrder : ℕ → Option (List ℕ) → Option (List ℕ) → Option (List ℕ) → Option (List ℕ) → ℕ → Type 0
 HasToldOrder most left left' written written' status =
-    (text : List ℕ) × HasReadAll left left' text × (HasWrittenOrder text written written' status ⊎ (HasNoOrder text most × HasWrittenVerdict most written written' status))
+    (text : List ℕ) × HasReadAll left left' text × (HasWrittenOrder text written written' status ⊎ (HasNoOrder text most × HasWrittenVerdict text most written written' status))
 
 -- an order or a judgement with this status was written, no device failed, and no message was printed
 abbrev pub HasEndedWell : ℕ → Seen → Seen → ℕ → Type 0
