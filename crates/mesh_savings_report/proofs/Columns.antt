@@ -7,8 +7,8 @@ use Rattle.std.proofs.lemmas.Nat.{le-div}
 use Rattle.std.proofs.lemmas.List.Elements.{All-drop, All-take}
 use Rattle.std.proofs.lemmas.List.Sums.{sum_by-cons}
 use Rattle.std.specs.List.{All}
-use Rattle.mesh_figures.specs.Samples.{last, mean, mean_of, measured, peak, rounded, total}
-use Rattle.mesh_figures.specs.declared.samples.Sample.{Sample}
+use Rattle.mesh_savings_report.specs.FigureSamples.{last, mean, mean_of, measured, peak, rounded, total}
+use Rattle.mesh_savings_report.specs.declared.table.samples.Sample.{Sample}
 use Rattle.mesh_savings_report.specs.Laws.{AreLeastFigures, IsLeast, PerfectFiguresAreLeast}
 
 -- no number is above the one at its place

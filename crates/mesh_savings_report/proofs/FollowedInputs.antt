@@ -5,7 +5,7 @@ use Rattle.model_memory.specs.Plain.{Entry}
 use Rattle.model_words.specs.declared.faults.TextFault.{TextFault}
 use Rattle.mesh_devices.specs.declared.faults.ReplayError.{ReplayError}
 use Rattle.mesh_devices.specs.declared.faults.ReplayError.TheVariants.{Read, Write, Text, Memory}
-use Rattle.mesh_figures.specs.declared.samples.Sample.{Sample}
+use Rattle.mesh_savings_report.specs.declared.table.samples.Sample.{Sample}
 use Rattle.history_reading.proofs.EntryInputs.{none_come}
 use Rattle.history_reading.specs.EntryInputs.{HasCome, HasEnded, HasRead, HasStopped, IsFresh, lines_before, reading_left}
 use Rattle.history_reading.specs.Readings.{Reading, reading_of}

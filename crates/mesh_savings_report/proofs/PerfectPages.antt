@@ -6,7 +6,7 @@ use Rattle.std.proofs.lemmas.List.{get_or-set_other, get_or-set_same}
 use Rattle.std.specs.List.{All}
 use Rattle.model_heap.specs.Table.{Table}
 use Rattle.model_words.specs.Classes.{Row, table}
-use Rattle.mesh_figures.specs.Samples.{AreFew, of_class}
+use Rattle.mesh_savings_report.specs.FigureSamples.{AreFew, of_class}
 use Rattle.mesh_placement.specs.ClassCounts.{class_objects, class_pages}
 use Rattle.mesh_placement.specs.ClassLaws.{FitsPages, ObjectsFitPages, pages_needed}
 use Rattle.mesh_savings.specs.Alike.{ClassesAreAlike, HeapsAreSound}

@@ -4,7 +4,7 @@ use Rattle.std.specs.Prelude.{max}
 use Rattle.model_heap.specs.Table.{Placed}
 use Rattle.model_words.specs.Classes.{class_for}
 use Rattle.model_words.specs.declared.refusals.Refusal.{Refusal}
-use Rattle.mesh_figures.specs.declared.samples.Sample.{Sample}
+use Rattle.mesh_savings_report.specs.declared.table.samples.Sample.{Sample}
 use Rattle.mesh_savings.specs.Followed.{Followed, Goes, Large, Live, NoAddresses as HasNoAddresses, NoObject as HasNoObject, Outcome, Small, aliased, freed, made, object_in, small_placed, step}
 use Rattle.mesh_savings.specs.Follows.{Follows, IsTaken}
 use Rattle.mesh_savings.specs.declared.calls.Call.{Call}

@@ -1,8 +1,8 @@
 -- What was gathered of samples, for the form that the options ask for.
 use Rattle.std.specs.Prelude.{◌≡◌, ℕ, List}
-use Rattle.mesh_figures.specs.Figures.{IsOf as AreFiguresOf}
-use Rattle.mesh_figures.specs.declared.samples.Sample.{Sample}
-use Rattle.mesh_savings_plot.specs.Intervals.{IsOf as AreCurvesOf}
+use Rattle.mesh_savings_report.specs.Figures.{IsOf as AreFiguresOf}
+use Rattle.mesh_savings_report.specs.declared.table.samples.Sample.{Sample}
+use Rattle.mesh_savings_report.specs.Intervals.{IsOf as AreCurvesOf}
 use Rattle.mesh_savings_report.specs.declared.gathered.Gathered.{Gathered}
 use Rattle.mesh_savings_report.specs.declared.gathered.Gathered.TheVariants.{Plot, Table}
 use Rattle.mesh_savings_report.specs.declared.options.Form.TheVariants.{Plot as OfPlot, Table as OfTable}

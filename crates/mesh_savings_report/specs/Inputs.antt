@@ -2,7 +2,7 @@
 use Rattle.std.specs.Prelude.{◌≡◌, ◌⊎◌, ℕ, List, ◌++◌, Option}
 use Rattle.std.specs.Io.KnownBytes.{Consumes, IsAtEnd}
 use Rattle.mesh_devices.specs.declared.faults.ReplayError.TheVariants.{Read, Write, Text, Memory}
-use Rattle.mesh_figures.specs.declared.samples.Sample.{Sample}
+use Rattle.mesh_savings_report.specs.declared.table.samples.Sample.{Sample}
 use Rattle.mesh_savings.specs.Followed.{Followed}
 use Rattle.mesh_savings.specs.declared.settings.Settings.{Settings}
 use Rattle.mesh_savings_report.specs.Reports.{Faulty, IsShown, NotHistory, Report, report_of, report_with}

@@ -1,10 +1,10 @@
 -- What holds of every sample that a run takes.
 use Rattle.std.specs.Prelude.{◌≡◌, ℕ, ◌≤◌, List}
 use Rattle.std.specs.List.{All}
-use Rattle.mesh_figures.specs.Samples.{last, mean, measured, of_class, pages_by, peak, total}
-use Rattle.mesh_figures.specs.declared.pages.Pages.{Pages}
-use Rattle.mesh_figures.specs.declared.samples.Sample.{Sample}
-use Rattle.mesh_figures.specs.declared.samples.Window.{Window}
+use Rattle.mesh_savings_report.specs.FigureSamples.{last, mean, measured, of_class, pages_by, peak, total}
+use Rattle.mesh_savings_report.specs.declared.table.pages.Pages.{Pages}
+use Rattle.mesh_savings_report.specs.declared.table.samples.Sample.{Sample}
+use Rattle.mesh_savings_report.specs.declared.table.samples.Window.{Window}
 use Rattle.mesh_savings.specs.Followed.{Goes, Followed, run, start}
 use Rattle.mesh_savings.specs.declared.calls.Call.{Call}
 use Rattle.mesh_savings.specs.declared.settings.Settings.{Settings}

@@ -1,5 +1,9 @@
+pub mod FigureSamples
+pub mod FigureTexts
+pub mod Figures
 pub mod Gathered
 pub mod Inputs
+pub mod Intervals
 pub mod Laws
 pub mod Reports
 pub mod Runs

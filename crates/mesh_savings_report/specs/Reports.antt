@@ -2,10 +2,10 @@
 use Rattle.std.specs.Prelude.{◌≡◌, ℕ, ◌+◌, List, [], ◌∷◌, ◌++◌, Option, Some, None, codes, length}
 use Rattle.model_memory.specs.Plain.{Entry}
 use Rattle.model_words.specs.declared.faults.TextFault.{TextFault}
-use Rattle.mesh_figures.specs.Texts.{figures_text}
-use Rattle.mesh_figures.specs.declared.samples.Counts.{Counts}
-use Rattle.mesh_figures.specs.declared.samples.Sample.{Sample}
-use Rattle.mesh_figures.specs.declared.samples.Window.{Window}
+use Rattle.mesh_savings_report.specs.FigureTexts.{figures_text}
+use Rattle.mesh_savings_report.specs.declared.table.samples.Counts.{Counts}
+use Rattle.mesh_savings_report.specs.declared.table.samples.Sample.{Sample}
+use Rattle.mesh_savings_report.specs.declared.table.samples.Window.{Window}
 use Rattle.history_reading.specs.Readings.{reading_of}
 use Rattle.mesh_savings.specs.Calls.{call_of}
 use Rattle.mesh_savings.specs.Followed.{Followed, Goes, NoAddresses, NoObject, Outcome, start, step}

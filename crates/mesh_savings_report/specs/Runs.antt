@@ -1,7 +1,7 @@
 -- A run, which makes the calls so far in both heaps and samples them, and what an entry does to it.
 use Rattle.std.specs.Prelude.{◌≡◌, ◌≤◌, ℕ, ◌+◌, ◌<◌, ◌-◌, ◌^◌, List, [], ◌∷◌, ◌++◌, Option, length}
 use Rattle.mesh_devices.specs.declared.faults.ReplayError.TheVariants.{Read, Write, Text, Memory}
-use Rattle.mesh_figures.specs.declared.samples.Sample.{Sample}
+use Rattle.mesh_savings_report.specs.declared.table.samples.Sample.{Sample}
 use Rattle.mesh_savings.specs.Followed.{Followed, Goes, NoAddresses as HasNoAddresses, NoObject as HasNoObject, Outcome}
 use Rattle.mesh_savings.specs.Follows.{Follows, HasNumbers}
 use Rattle.mesh_savings.specs.declared.calls.Call.{Call}

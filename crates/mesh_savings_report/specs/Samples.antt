@@ -2,8 +2,8 @@
 use Rattle.std.specs.Prelude.{ℕ, ◌-◌, List, map, sum_by}
 use Rattle.model_heap.specs.Table.{Table}
 use Rattle.model_words.specs.Classes.{table}
-use Rattle.mesh_figures.specs.declared.samples.Counts.{Counts}
-use Rattle.mesh_figures.specs.declared.samples.Sample.{Sample}
+use Rattle.mesh_savings_report.specs.declared.table.samples.Counts.{Counts}
+use Rattle.mesh_savings_report.specs.declared.table.samples.Sample.{Sample}
 use Rattle.mesh_placement.specs.ClassCounts.{class_objects, class_pages}
 use Rattle.mesh_placement.specs.ClassLaws.{pages_needed}
 use Rattle.mesh_savings.specs.Followed.{Followed}

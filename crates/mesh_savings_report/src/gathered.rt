@@ -1,14 +1,14 @@
 //! `Gathered`: the data for a table or a plot, gathered from a sample after each call.
 ghost use Rattle.std.specs.Prelude.{◌≡◌, ◌-◌, ◌<◌, ◌≤◌, ◌^◌, ◌↔◌, ◌++◌, ◌∷◌, [], List, IfOk, IsTrue};
-ghost use Rattle.mesh_figures.specs.Samples.{AreFew};
-ghost use Rattle.mesh_figures.specs.declared.samples.Sample.{Sample};
+ghost use Rattle.mesh_savings_report.specs.FigureSamples.{AreFew};
+ghost use Rattle.mesh_savings_report.specs.declared.table.samples.Sample.{Sample};
 ghost use Rattle.mesh_savings_report.specs.Gathered.{IsOf, calls_in};
 ghost use Rattle.mesh_savings_report.specs.Reports.{IsShownAs};
 ghost use Rattle.mesh_savings_report.specs.declared.options.SavingsOptions.{SavingsOptions};
 
 use crate::options::{Form, SavingsOptions};
-use mesh_figures::{Counts, Figures, Sample};
-use mesh_savings_plot::Curves;
+use crate::plot::Curves;
+use crate::table::{Counts, Figures, Sample};
 use std::alloc::{AllocError, Global};
 
 /// The data gathered from a sample after each call.

@@ -1,6 +1,6 @@
 //! The options of a report.
 
-use mesh_figures::Window;
+use crate::table::Window;
 use mesh_savings::Settings;
 
 /// How a history is replayed, which of its calls are measured, and how the measurements are shown.

@@ -1,6 +1,6 @@
 //! `Run`: makes calls on both heaps, and adds a sample after each call.
 ghost use Rattle.std.specs.Prelude.{◌≡◌, ◌-◌, ◌^◌, ◌≤◌, [], List, true, false, length, IfErr, IfOk, IfSome, IsNone};
-ghost use Rattle.mesh_figures.specs.declared.samples.Sample.{Sample};
+ghost use Rattle.mesh_savings_report.specs.declared.table.samples.Sample.{Sample};
 ghost use Rattle.mesh_devices.specs.Ends.{too_long};
 ghost use Rattle.text_words.specs.RecordedWords.{plain_entry};
 ghost use Rattle.mesh_savings.specs.Calls.{call_of};

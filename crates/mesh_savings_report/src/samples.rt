@@ -1,14 +1,14 @@
 //! The sample of both heaps after a call, and the counts of a run.
 ghost use Rattle.std.specs.Prelude.{◌≡◌, ◌<◌, ◌≤◌, ◌^◌};
-ghost use Rattle.mesh_figures.specs.Samples.{AreFew};
+ghost use Rattle.mesh_savings_report.specs.FigureSamples.{AreFew};
 ghost use Rattle.mesh_placement.specs.ClassLaws.{FitsPages, pages_needed};
 ghost use Rattle.mesh_placement.specs.Placement.{table_of};
 ghost use Rattle.mesh_savings.specs.Followed.{Followed};
 ghost use Rattle.mesh_savings.specs.Follows.{Follows};
 ghost use Rattle.mesh_savings_report.specs.Samples.{counts_of, perfect_pages, sample_of};
 
+use crate::table::{Counts, Sample};
 use mesh_class::{Class, all_classes};
-use mesh_figures::{Counts, Sample};
 use mesh_savings::{Placement, Savings};
 
 /// Returns the sample of both heaps: the pages of each heap, the pages with perfect packing, and the live bytes.

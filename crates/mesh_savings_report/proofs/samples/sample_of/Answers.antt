@@ -1,6 +1,6 @@
 use Rattle.std.proofs.Common.{◌≤◌, List, ℕ, sym, subst, ◌∙◌}
 use Rattle.std.specs.List.{All}
-use Rattle.mesh_figures.specs.Samples.{AreFew}
+use Rattle.mesh_savings_report.specs.FigureSamples.{AreFew}
 use Rattle.mesh_placement.specs.Placement.{table_of}
 use Rattle.mesh_savings_report.proofs.PerfectPages.{perfect_few}
 use Rattle.mesh_savings_report.proofs.SampleTables.{is_sample}

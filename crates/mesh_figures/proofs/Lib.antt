@@ -1,3 +1,0 @@
-mod FigureLemmas
-mod SavingLemmas
-pub mod WindowLemmas

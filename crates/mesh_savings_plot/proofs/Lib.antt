@@ -1,3 +1,0 @@
-mod SpanLemmas
-mod PieceLemmas
-mod WindowLemmas
