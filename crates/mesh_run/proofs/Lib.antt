@@ -6,4 +6,5 @@ mod OrderEnds
 pub mod PatternsSpelt
 pub mod SavingsEnds
 pub mod ThreadEnds
+mod TwoClauses
 pub mod WordCounts

@@ -1,5 +1,5 @@
 -- How a drawing and a live session end. A failure of the output is never reported as out of memory.
-use Rattle.std.specs.Prelude.{◌≡◌, ℕ, Bool, true, false}
+use Rattle.std.specs.Prelude.{◌≡◌, ℕ, Bool, false}
 use Rattle.mesh_draw.specs.Draws.{HasDrawn, HasNotDrawn}
 use Rattle.mesh_live.specs.Runs.{HasLived, HasStopped}
 use Rattle.mesh_live.specs.declared.sizes.Sizes.{Sizes}

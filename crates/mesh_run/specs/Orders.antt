@@ -1,36 +1,53 @@
 -- What a run writes if it is asked for an order of overlapping calls.
-use Rattle.std.specs.Prelude.{◌≡◌, ◌<◌, ◌≤◌, ◌⊎◌, ℕ, List, Option, Some}
+use Rattle.std.specs.Prelude.{Bool, true, false, ◌≡◌, ◌<◌, ◌≤◌, ◌⊎◌, ℕ, List, Option, Some}
 use Rattle.std.specs.Io.KnownBytes.{Appends}
 use Rattle.model_jobs.specs.Texts.{ended}
 use Rattle.mesh_devices.specs.Transfer.{HasReadAll}
 use Rattle.mesh_linearizability.specs.Checks.{IsLinearizableText}
+use Rattle.mesh_linearizability.specs.declared.verdicts.CallVerdict.TheVariants.{Linearizable}
+use Rattle.mesh_judge.specs.JudgementTexts.{judgement_text}
+use Rattle.mesh_judge.specs.Judgements.{HasJudged}
+use Rattle.mesh_judge.specs.declared.judging.Judgement.{Judgement}
+use Rattle.mesh_judge.specs.declared.judging.Judgement.TheVariants.{Overlapping}
 use Rattle.mesh_judge.specs.OrderedHistories.{HasNoAnswer, IsOrderedHistory}
 use Rattle.mesh_judge.specs.declared.order_faults.OrderFault.TheVariants.{Undecided}
-use Rattle.mesh_run.specs.Checks.{HasToldVerdict, check_error_text, status_of_check}
+use Rattle.mesh_run.specs.Checks.{check_error_text, judgement_status, status_of_check}
 use Rattle.mesh_run.specs.Runs.{HasTold, IsDone}
 use Rattle.mesh_run.specs.Seen.{Seen}
 use Rattle.mesh_run.specs.declared.check_error.CheckError.{CheckError}
 
--- the calls of the text were written in an order that explains them, and the status is 0
+-- whether the verdict is `linearizable`
+abbrev pub is_linearizable : Judgement → Bool
+is_linearizable (Overlapping (Linearizable entries)) = true
+is_linearizable judgement = false
+
+-- the text's calls are linearizable and were written in an order that explains them, and the status is 0
 pub record HasWrittenOrder (text : List ℕ) (written written' : Option (List ℕ)) (status : ℕ) : Type 0 where
+  pub entries : ℕ
+  pub linearizable : IsLinearizableText text entries
   pub history : List ℕ
   pub is_ordered : IsOrderedHistory text history
   pub wrote : Appends written written' history
   pub done : status ≡ 0
 
--- the text was judged, the judgement's line was written, and the judgement has this status
-abbrev pub HasWrittenVerdict : List ℕ → ℕ → Option (List ℕ) → Option (List ℕ) → ℕ → Type 0
-HasWrittenVerdict text most written written' status = (rest : List ℕ) × HasToldVerdict most (Some text) (Some rest) written written' status
-
 -- no order was found. No order explains the text's calls, or a limit of the search was exceeded
 abbrev pub HasNoOrder : List ℕ → ℕ → Type 0
 HasNoOrder text most = ((entries : ℕ) → IsLinearizableText text entries → ⊥) ⊎ HasNoAnswer text most Undecided
 
--- the input was read to its end. Either an order of the calls of its text was written, or no order was found and a
--- judgement with this status was written
+-- the text was judged, the judgement's line was written, and the judgement has this status. If the verdict is
+-- `linearizable`, no order was found
+pub record HasWrittenVerdict (text : List ℕ) (most : ℕ) (written written' : Option (List ℕ)) (status : ℕ) : Type 0 where
+  pub judgement : Judgement
+  pub rest : List ℕ
+  pub judged : HasJudged (Some text) (Some rest) judgement
+  pub unordered : is_linearizable judgement ≡ true → HasNoOrder text most
+  pub wrote : Appends written written' (judgement_text most judgement)
+  pub is_status : status ≡ judgement_status judgement
+
+-- the input was read to its end. Either an order of the calls of its text was written, or a judgement with this status
 abbrev pub HasToldOrder : ℕ → Option (List ℕ) → Option (List ℕ) → Option (List ℕ) → Option (List ℕ) → ℕ → Type 0
 HasToldOrder most left left' written written' status =
-    (text : List ℕ) × HasReadAll left left' text × (HasWrittenOrder text written written' status ⊎ (HasNoOrder text most × HasWrittenVerdict text most written written' status))
+    (text : List ℕ) × HasReadAll left left' text × (HasWrittenOrder text written written' status ⊎ HasWrittenVerdict text most written written' status)
 
 -- an order or a judgement with this status was written, no device failed, and no message was printed
 abbrev pub HasEndedWell : ℕ → Seen → Seen → ℕ → Type 0

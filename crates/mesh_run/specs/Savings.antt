@@ -5,7 +5,7 @@ use Rattle.model_jobs.specs.Texts.{ended}
 use Rattle.mesh_command_line.specs.declared.savings_args.SavingsArgs.{SavingsArgs}
 use Rattle.mesh_devices.specs.Transfer.{AppendsBeginning}
 use Rattle.mesh_devices.specs.declared.faults.ReplayError.TheVariants.{Read, Write, Memory, Text}
-use Rattle.mesh_run.specs.Runs.{HasFailed, HasTold, IsDone, IsSound, IsStoppedFor, Moves, error_text}
+use Rattle.mesh_run.specs.Runs.{HasFailed, HasTold, IsDone, IsSound, IsStoppedFor, error_text}
 use Rattle.mesh_run.specs.Seen.{Seen}
 use Rattle.mesh_run.specs.Status.{status_of_error}
 use Rattle.mesh_savings.specs.declared.settings.Words.{Words}

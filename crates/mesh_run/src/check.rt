@@ -71,7 +71,7 @@ pub(crate) fn write_verdict<I: Source + Drop, O: Sink>(
 }
 
 /// The exit status of a judgement.
-fn status_of_judgement(judgement: &Judgement) -> u8
+pub(crate) fn status_of_judgement(judgement: &Judgement) -> u8
     ensures status { result ≡ judgement_status judgement.now }
     ensures small { result ≤ 1 }
 {

@@ -1,21 +1,27 @@
 //! The program's order of the overlapping calls of a history.
-ghost use Rattle.std.specs.Prelude.{◌≡◌, ◌≤◌, false, IfOk, IfSome, IsNone, OnOk};
+ghost use Rattle.std.specs.Prelude.{◌≡◌, ◌≤◌, ℕ, List, Some, true, false, IfOk, IfSome, IsNone, OnOk};
+ghost use Rattle.std.specs.Io.KnownBytes.{Appends};
+ghost use Rattle.mesh_judge.specs.JudgementTexts.{judgement_text};
+ghost use Rattle.mesh_judge.specs.Judgements.{HasJudged};
 ghost use Rattle.mesh_judge.specs.OrderedHistories.{IsOrderedHistory};
-ghost use Rattle.mesh_run.specs.Orders.{EndsOrder, HasNoOrder, HasToldOrder};
+ghost use Rattle.mesh_run.specs.Checks.{judgement_status};
+ghost use Rattle.mesh_run.specs.Orders.{EndsOrder, HasNoOrder, HasToldOrder, is_linearizable};
 ghost use Rattle.mesh_run.specs.Runs.{IsSound};
 
 use crate::Devices;
-use crate::check::{check_line_of, status_of_check, write_verdict};
+use crate::check::{check_line_of, status_of_check, status_of_judgement};
 use crate::check_error::CheckError;
 use crate::runs::tell;
 use mesh_command_line::status::DONE;
 use mesh_devices::{Input, ReplayError, Sink, Source, read_all, write_lines};
-use mesh_judge::{Begun, OrderFault, ordered_history};
+use mesh_judge::{
+    Begun, CallVerdict, Judgement, OrderFault, judge, judgement_line, ordered_history,
+};
 use std::alloc::Global;
 
-/// Writes the calls of the history in the input in an order that explains them, as a history of version 1, and returns
-/// the exit status 0. If no such order is found, judges the history as `check_run` does, with the same lines and
-/// statuses. A history whose calls are already in order is judged too.
+/// Judges the history in the input. If the verdict is `linearizable`, writes the calls in an order that explains them,
+/// as a history of version 1, and returns the exit status 0. For another verdict, or if no order is found, writes the
+/// line that `check_run` writes, and returns the same status.
 pub fn order_run<I: Source, O: Sink, E: Sink>(
     alloc: Global,
     most: u32,
@@ -49,12 +55,69 @@ fn write_order<I: Source, O: Sink>(
     ensures small { IfOk result (λ status. status ≤ 1) }
 {
     let text = read_all(alloc, input)?;
-    if let Some(history) = order_in(alloc, text.as_slice(), most)? {
+    let judgement = judged(alloc, text.as_slice(), most)?;
+    if let Some(history) = order_for(alloc, &judgement, text.as_slice(), most)? {
         write_lines(output, history.as_slice())?;
         return Ok(DONE);
     }
-    let mut source = Begun::new(Input::new(text.as_slice()));
-    write_verdict(alloc, most, &mut source, output)
+    write_judgement(alloc, &judgement, most, output)
+}
+
+/// Judges the history in a text.
+fn judged(alloc: Global, text: &[u8], most: u32) -> Result<Judgement, CheckError>
+    ensures { IfOk result (λ judgement. (rest : List ℕ) × HasJudged (Some text.now) (Some rest) judgement) }
+{
+    let mut source = Begun::new(Input::new(text));
+    let judgement = judge(alloc, &mut source, most as usize)?;
+    Ok(judgement)
+}
+
+/// Whether the verdict is `linearizable`.
+fn is_linearizable(judgement: &Judgement) -> bool
+    ensures { result ≡ is_linearizable judgement.now }
+{
+    match judgement {
+        Judgement::Overlapping(CallVerdict::Linearizable(_)) => true,
+        _ => false,
+    }
+}
+
+/// Writes the line of a judgement. Returns its exit status.
+fn write_judgement<O: Sink>(
+    alloc: Global,
+    judgement: &Judgement,
+    most: u32,
+    output: &mut O,
+) -> Result<u8, CheckError>
+    requires { O.has_failed output.old ≡ false }
+    ensures ok { OnOk result (O.has_failed output.new ≡ false) }
+    ensures wrote { OnOk result
+        (Appends (O.written output.old) (O.written output.new) (judgement_text most judgement.now)) }
+    ensures status { IfOk result (λ status. status ≡ judgement_status judgement.now) }
+    ensures small { IfOk result (λ status. status ≤ 1) }
+{
+    let line = judgement_line(alloc, judgement, most)?;
+    write_lines(output, line.as_slice())?;
+    Ok(status_of_judgement(judgement))
+}
+
+/// Returns the calls of a text in an order that explains them. Returns `None` if the text's judgement isn't
+/// `linearizable`, or if no order is found.
+fn order_for(
+    alloc: Global,
+    judgement: &Judgement,
+    text: &[u8],
+    most: u32,
+) -> Result<Option<Vec<u8>>, CheckError>
+    ensures ordered { IfOk result (λ found. IfSome found (λ history. IsOrderedHistory text.now history.items)) }
+    ensures linearizable { IfOk result (λ found. IfSome found (λ _. is_linearizable judgement.now ≡ true)) }
+    ensures none { IfOk result
+        (λ found. IsNone found → is_linearizable judgement.now ≡ true → HasNoOrder text.now most) }
+{
+    if !is_linearizable(judgement) {
+        return Ok(None);
+    }
+    order_in(alloc, text, most)
 }
 
 /// Returns the calls of a text in an order that explains them, or `None` if no order is found.

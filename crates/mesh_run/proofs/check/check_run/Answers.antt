@@ -1,6 +1,5 @@
 use Rattle.std.proofs.Common.{List, ℕ, subst, ◌∙◌}
 use Rattle.std.specs.Io.KnownBytes.{prepend_known}
-use Rattle.model_jobs.specs.Texts.{ended}
 use Rattle.mesh_run.specs.Checks.{EndsCheck}
 use Rattle.mesh_run.specs.Runs.{HasTold}
 use Rattle.mesh_run.specs.Seen.{Seen, seen}

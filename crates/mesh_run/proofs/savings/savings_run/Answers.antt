@@ -1,5 +1,4 @@
 use Rattle.std.proofs.Common.{List, ℕ, subst, ◌∙◌}
-use Rattle.model_jobs.specs.Texts.{ended}
 use Rattle.mesh_run.specs.Runs.{HasTold}
 use Rattle.mesh_run.specs.Savings.{EndsSavings, HasWrittenReport}
 use Rattle.mesh_run.specs.Seen.{Seen, seen}
