@@ -55,14 +55,14 @@ def builds_on(crate, uses):
 
 def row(crate, uses):
     """A crate's line of the table."""
-    names = ", ".join(f"`{name.removeprefix('mesh_')}`" for name in builds_on(crate, uses))
+    names = ", ".join(f"`{name}`" for name in builds_on(crate, uses))
     return f"| [`{crate}`](../crates/{crate}/README.md) | {purpose(crate)} | {names} |\n"
 
 
 def table():
     """The whole table."""
     uses = libraries()
-    head = "| Crate | What it is | Builds on (`mesh_` left out) |\n|---|---|---|\n"
+    head = "| Crate | What it is | Builds on |\n|---|---|---|\n"
     return head + "".join(row(crate, uses) for crate in uses)
 
 

@@ -4,7 +4,7 @@
     tools/gen/interleavings.py
 
 Each of these worked examples makes the same commands and the same calls of the mesher, in one phase of a mesh. A table
-has a line for each example, with its answers. `mesh_rows` proves that the definitions give these answers.
+has a line for each example, with its answers. `model_rows` proves that the definitions give these answers.
 
 The status is 1 if the lines that a cell covers have different answers. Run it from the top of the repository after one
 of these files was changed; what it writes is committed.

@@ -1,13 +1,13 @@
 #!/usr/bin/env python3
-"""Writes the crate mesh_rows, and the tables of mesh_program_tests and mesh_explore_tests, from jobs/golden and
+"""Writes the crate model_rows, and the tables of run_tests and explore_tests, from jobs/golden and
 jobs/explore.
 
     tools/gen/rows.py
 
 Each folder of jobs/golden is a subject, and each NAME.job in it a worked example. NAME.out has the expected output; or
-NAME.err has the expected fault, if the file is no job. In mesh_rows a subject becomes a spec file, and a function with
-a clause for each example. In mesh_program_tests a subject becomes a table of its examples. The explorations of
-jobs/explore with few interleavings become a table of mesh_explore_tests.
+NAME.err has the expected fault, if the file is no job. In model_rows a subject becomes a spec file, and a function with
+a clause for each example. In run_tests a subject becomes a table of its examples. The explorations of
+jobs/explore with few interleavings become a table of explore_tests.
 
 Nothing is printed. The status is 1 if a file has a form that this tool doesn't know, or if `rt fmt` fails. It needs
 `rt`. Run it from the top of the repository after an example was added or changed; what it writes is committed.
@@ -18,8 +18,8 @@ import shutil
 import subprocess
 
 ROWS = pathlib.Path("jobs/golden")
-CRATE = pathlib.Path("crates/mesh_rows")
-TABLES = pathlib.Path("crates/mesh_program_tests")
+CRATE = pathlib.Path("crates/model_rows")
+TABLES = pathlib.Path("crates/run_tests")
 # The theorems are about files below this length. Longer ones are only for the program.
 MAX_BYTES = 100_000
 
@@ -28,7 +28,7 @@ MAX_BYTES = 100_000
 UNTABLED = {"interleavings"}
 
 EXPLORATIONS = pathlib.Path("jobs/explore")
-TREES = pathlib.Path("crates/mesh_explore_tests")
+TREES = pathlib.Path("crates/explore_tests")
 # The tests make each interleaving of an exploration by itself if there are at most this many.
 FEW_INTERLEAVINGS = 400
 
@@ -106,7 +106,7 @@ def write_subject(name, rows):
     faults = any(row.with_suffix(".err").exists() for row in rows)
     spec = [f"-- Worked examples: {name.replace('_', ' ')}. Written by tools/gen/rows.py from jobs/golden/{name}.",
             f"use Rattle.std.specs.Prelude.{{{'Err' if faults else 'Ok'}, codes}}",
-            "use Rattle.mesh_rows.specs.Rows.{Row}"]
+            "use Rattle.model_rows.specs.Rows.{Row}"]
     if faults:
         used = sorted({KINDS[row.with_suffix(".err").read_text().strip().split(": ")[1]] for row in rows})
         spec.append(f"use Rattle.model_words.specs.declared.faults.FaultKind.TheVariants.{{{', '.join(used)}}}")
@@ -120,9 +120,9 @@ def write_functions(subjects):
     """Writes a function for each subject, with a clause for each of its examples."""
     lines = ["//! A function for each subject of the worked examples. Written by `tools/gen/rows.py`.",
              f"#![tactic(auto, unfolding({', '.join(OPENED)}))]", "",
-             "ghost use Rattle.mesh_rows.specs.Rows.{IsReplayed};"]
+             "ghost use Rattle.model_rows.specs.Rows.{IsReplayed};"]
     for name, rows in subjects.items():
-        lines.append(f"ghost use Rattle.mesh_rows.specs.{camel(name)}.{{{', '.join(row.stem for row in rows)}}};")
+        lines.append(f"ghost use Rattle.model_rows.specs.{camel(name)}.{{{', '.join(row.stem for row in rows)}}};")
     for name, rows in subjects.items():
         named = len(rows) > 1
         lines += ["", f"/// Worked examples: {name.replace('_', ' ')}.", f"pub fn {name}()"]
@@ -183,7 +183,7 @@ def write_trees():
     """Writes the explorations of few interleavings as a table of Rust."""
     jobs = [job for job in sorted(EXPLORATIONS.glob("*.job")) if is_few(job)]
     lines = ["//! Explorations of few interleavings. Written by `tools/gen/rows.py`.", "",
-             "use mesh_explore::MeshPair;", "",
+             "use explore_interleavings::MeshPair;", "",
              "/// The explorations: the name, the meshes, the number of steps before a cancel, and the job file of each.",
              f"pub(crate) static CASES: [(&str, &[MeshPair], Option<u32>, &str); {len(jobs)}] = ["]
     (TREES / "src" / "tests" / "cases.rt").write_text("\n".join(lines + list(map(case, jobs)) + ["];", ""]))

@@ -14,6 +14,6 @@ for script in tools/gen/*.py tools/gen/*.sh tools/proof/cost_table.py tools/proo
 done
 cmp jobs/examples/hello.job crates/meshrun/data/hello.job || exit 1
 # A clone may belong to another user than the one who runs this.
-git -c safe.directory='*' diff --exit-code -- crates/mesh_rows crates/mesh_program_tests/src/memory \
-    crates/mesh_explore_tests/src/tests docs/ARCHITECTURE.md docs/INTERLEAVINGS.md docs/PROOF.md docs/PROOF_COST.md \
+git -c safe.directory='*' diff --exit-code -- crates/model_rows crates/run_tests/src/memory \
+    crates/explore_tests/src/tests docs/ARCHITECTURE.md docs/INTERLEAVINGS.md docs/PROOF.md docs/PROOF_COST.md \
     jobs/explore histories

@@ -26,7 +26,7 @@ case $crates in
     *) crates=$PWD/$crates ;;
 esac
 cd "$(dirname "$0")/../.." || exit 2
-small=$crates/mesh_memory_tests/out/mesh_memory_tests
+small=$crates/memory_tests/out/memory_tests
 meshrun=$crates/meshrun/out/meshrun
 for program in "$small" "$meshrun"; do
     if [ ! -x "$program" ]; then
@@ -90,7 +90,7 @@ spare() {
 
 # The functions below print what is wrong with the end of a run, or nothing.
 
-# A run of a case of mesh_memory_tests.
+# A run of a case of memory_tests.
 case_fault() {
     [ "$status" -eq 0 ] || echo " status $status"
     ! grep -q '^WRONG' "$room/output" || echo " $(grep '^WRONG' "$room/output")"

@@ -3,7 +3,7 @@ use Rattle.std.proofs.Common.{◌≡◌, ℕ, ◌+◌, ◌<◌, Bool, List, [], 
 use Rattle.std.specs.List.{position, position_or_len}
 use Rattle.std.proofs.lemmas.List.{drop-map, length-map, take-map}
 use Rattle.model_words.specs.declared.faults.FaultKind.TheVariants.{Word}
-use Rattle.mesh_fields.specs.Lines.{texts}
+use Rattle.text_fields.specs.Lines.{texts}
 use Rattle.history_reading.specs.HistoryFiles.{arrow_split, asked_in, is_arrow, parts_at}
 use denote.Ref.{Bor}
 

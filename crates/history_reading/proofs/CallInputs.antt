@@ -2,12 +2,12 @@
 use Rattle.std.proofs.Common.{◌≡◌, ℕ, ◌+◌, ◌≤◌, true, List, [], ◌∷◌, ◌++◌, Option, Some, None, Ok, length, length-append, ap, refl, sym, ◌∙◌, arith, inl, inr, ne_eqb}
 use Rattle.model_intervals.specs.Intervals.{Call}
 use Rattle.model_words.specs.declared.faults.TextFault.{TextFault}
-use Rattle.mesh_devices.specs.declared.faults.ReplayError.{ReplayError}
-use Rattle.mesh_devices.specs.declared.faults.ReplayError.TheVariants.{Text as FaultyText, Read as FailedRead, Write as FailedWrite, Memory as OfMemory}
-use Rattle.mesh_fields.specs.Lines.{text_lines}
-use Rattle.mesh_fields.proofs.Splits.{some_part}
-use Rattle.mesh_devices.specs.LineInputs.{BadEnd, HasCome as LinesCome, HasEnded as LinesEnded, HasStopped as LinesStopped, Long, OneTooMany, unread_of}
-use Rattle.mesh_devices.proofs.LineInputs.{none_come}
+use Rattle.text_devices.specs.declared.faults.ReplayError.{ReplayError}
+use Rattle.text_devices.specs.declared.faults.ReplayError.TheVariants.{Text as FaultyText, Read as FailedRead, Write as FailedWrite, Memory as OfMemory}
+use Rattle.text_fields.specs.Lines.{text_lines}
+use Rattle.text_fields.proofs.Splits.{some_part}
+use Rattle.text_devices.specs.LineInputs.{BadEnd, HasCome as LinesCome, HasEnded as LinesEnded, HasStopped as LinesStopped, Long, OneTooMany, unread_of}
+use Rattle.text_devices.proofs.LineInputs.{none_come}
 use Rattle.history_reading.specs.CallFaults.{call_error_of}
 use Rattle.history_reading.specs.CallInputs.{HasCome, HasEnded, HasNext, HasStopped, IsFaultOf, IsFresh, lines_before, next_line}
 use Rattle.history_reading.specs.CallOrders.{IsOrderOf}

@@ -9,10 +9,10 @@ use Rattle.model_words.specs.declared.commands.Reply.{Reply}
 use Rattle.model_words.specs.declared.commands.Reply.TheVariants.{Object as Made, Done, Bytes, At, Refused}
 use Rattle.model_words.specs.declared.faults.FaultKind.{FaultKind}
 use Rattle.model_words.specs.declared.faults.FaultKind.TheVariants.{Word}
-use Rattle.mesh_fields.specs.Commands.{IsWithin, plain_command}
-use Rattle.mesh_fields.specs.Lines.{texts}
-use Rattle.mesh_fields.specs.declared.commands.SpeltCommand.{SpeltCommand}
-use Rattle.mesh_fields.specs.declared.commands.SpeltCommand.TheVariants.{New as SpeltNew, Put as SpeltPut, Get as SpeltGet, Free as SpeltFree, Alias as SpeltAlias, Addr as SpeltAddr, Peek as SpeltPeek, Poke as SpeltPoke, Copy as SpeltCopy}
+use Rattle.text_fields.specs.Commands.{IsWithin, plain_command}
+use Rattle.text_fields.specs.Lines.{texts}
+use Rattle.text_fields.specs.declared.commands.SpeltCommand.{SpeltCommand}
+use Rattle.text_fields.specs.declared.commands.SpeltCommand.TheVariants.{New as SpeltNew, Put as SpeltPut, Get as SpeltGet, Free as SpeltFree, Alias as SpeltAlias, Addr as SpeltAddr, Peek as SpeltPeek, Poke as SpeltPoke, Copy as SpeltCopy}
 use Rattle.history_reading.proofs.Sizes.{sized_within}
 use Rattle.text_words.specs.RecordedWords.{IsNarrow, plain_reply}
 use Rattle.text_words.specs.declared.recorded.RecordedReply.{RecordedReply}

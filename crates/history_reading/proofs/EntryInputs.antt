@@ -5,13 +5,13 @@ use Rattle.std.specs.Io.KnownBytes.{Consumes}
 use Rattle.std.proofs.lemmas.Bool.Decides.{eqb_tells}
 use Rattle.model_memory.specs.Plain.{Entry}
 use Rattle.model_words.specs.declared.faults.TextFault.{TextFault}
-use Rattle.mesh_devices.specs.Faults.{replay_error_of}
-use Rattle.mesh_devices.specs.declared.faults.ReplayError.{ReplayError}
-use Rattle.mesh_devices.specs.declared.faults.ReplayError.TheVariants.{Memory, Read, Text, Write}
-use Rattle.mesh_fields.specs.declared.faults.ReadFault.{ReadFault}
-use Rattle.mesh_fields.specs.declared.faults.ReadFault.TheVariants.{Text as FaultyText, Memory as OfMemory}
+use Rattle.text_devices.specs.Faults.{replay_error_of}
+use Rattle.text_devices.specs.declared.faults.ReplayError.{ReplayError}
+use Rattle.text_devices.specs.declared.faults.ReplayError.TheVariants.{Memory, Read, Text, Write}
+use Rattle.text_fields.specs.declared.faults.ReadFault.{ReadFault}
+use Rattle.text_fields.specs.declared.faults.ReadFault.TheVariants.{Text as FaultyText, Memory as OfMemory}
 use Rattle.history_reading.specs.EntryInputs.{EndsWithFault, HasCome, HasEnded, HasStopped, IsFault, IsFresh, IsNext, IsUsedUp, MayEnd, lines_before, reading_left}
-use Rattle.mesh_devices.specs.Pendings.{HasBytes}
+use Rattle.text_devices.specs.Pendings.{HasBytes}
 use Rattle.history_reading.specs.Readers.{lines_of, next_line, reading_behind}
 use Rattle.history_reading.specs.Readings.{Reading, ends_with, reading_of, with_entries}
 use Rattle.text_words.specs.RecordedWords.{plain_entry}

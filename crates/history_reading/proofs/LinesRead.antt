@@ -7,10 +7,10 @@ use Rattle.std.proofs.lemmas.Bool.Decides.{eqb_tells}
 use Rattle.std.proofs.lemmas.List.Splits.{slice_split-cons_no, slice_split-cons_yes}
 use Rattle.model_intervals.specs.Intervals.{Call}
 use Rattle.model_words.specs.declared.faults.TextFault.{TextFault}
-use Rattle.mesh_fields.specs.Lines.{text_lines}
-use Rattle.mesh_fields.proofs.KeptLines.{rest_too_long}
-use Rattle.mesh_fields.proofs.Splits.{some_part}
-use Rattle.mesh_devices.specs.Ends.{end_fault, is_full, long_line, too_long}
+use Rattle.text_fields.specs.Lines.{text_lines}
+use Rattle.text_fields.proofs.KeptLines.{rest_too_long}
+use Rattle.text_fields.proofs.Splits.{some_part}
+use Rattle.text_devices.specs.Ends.{end_fault, is_full, long_line, too_long}
 use Rattle.history_reading.specs.CallInputs.{AreRead}
 use Rattle.history_reading.specs.CallReadings.{CallFault, CallLine, Head, OfCall, OfText, calls_from, next_in, read_on}
 

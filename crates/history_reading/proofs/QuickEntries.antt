@@ -15,11 +15,11 @@ use Rattle.model_jobs.specs.Texts.{hex_from}
 use Rattle.model_words.specs.declared.commands.Command.TheVariants.{New, Free, Alias}
 use Rattle.model_words.specs.declared.commands.Reply.TheVariants.{Object as Made, Done}
 use Rattle.model_words.specs.Commands.{IsInRange}
-use Rattle.mesh_fields.specs.Commands.{place_in, plain_command, size_in, wide_in}
-use Rattle.mesh_fields.specs.KeptLines.{IsUnended}
-use Rattle.mesh_fields.specs.Lines.{line_fields}
-use Rattle.mesh_fields.proofs.LineSteps.{bytes_taken}
-use Rattle.mesh_fields.specs.declared.commands.SpeltCommand.TheVariants.{New as SpeltNew, Free as SpeltFree, Alias as SpeltAlias}
+use Rattle.text_fields.specs.Commands.{place_in, plain_command, size_in, wide_in}
+use Rattle.text_fields.specs.KeptLines.{IsUnended}
+use Rattle.text_fields.specs.Lines.{line_fields}
+use Rattle.text_fields.proofs.LineSteps.{bytes_taken}
+use Rattle.text_fields.specs.declared.commands.SpeltCommand.TheVariants.{New as SpeltNew, Free as SpeltFree, Alias as SpeltAlias}
 use Rattle.history_reading.specs.HistoryFiles.{entry_fields, entry_in, is_arrow}
 use Rattle.history_reading.specs.QuickEntries.{IsQuickEntry}
 use Rattle.text_words.specs.RecordedWords.{IsNarrow, IsSized, plain_entry}

@@ -6,17 +6,17 @@ use Rattle.std.proofs.lemmas.Bool.Decides.{leb_tells}
 use Rattle.std.proofs.lemmas.List.Splits.{slice_split_at, slice_split_none}
 use Rattle.model_words.specs.Commands.{IsInRange}
 use Rattle.model_words.specs.declared.faults.TextFault.{TextFault}
-use Rattle.mesh_fields.specs.Commands.{plain_command}
-use Rattle.mesh_fields.specs.KeptLines.{IsUnended}
-use Rattle.mesh_fields.specs.Lines.{text_lines}
-use Rattle.mesh_fields.proofs.KeptLines.{both_unended, rest_too_long}
-use Rattle.mesh_fields.proofs.Splits.{Parts, first_line, some_part, unended_more}
-use Rattle.mesh_fields.specs.declared.faults.ReadFault.{ReadFault}
-use Rattle.mesh_fields.specs.declared.faults.ReadFault.TheVariants.{Text, Memory as OfMemory}
+use Rattle.text_fields.specs.Commands.{plain_command}
+use Rattle.text_fields.specs.KeptLines.{IsUnended}
+use Rattle.text_fields.specs.Lines.{text_lines}
+use Rattle.text_fields.proofs.KeptLines.{both_unended, rest_too_long}
+use Rattle.text_fields.proofs.Splits.{Parts, first_line, some_part, unended_more}
+use Rattle.text_fields.specs.declared.faults.ReadFault.{ReadFault}
+use Rattle.text_fields.specs.declared.faults.ReadFault.TheVariants.{Text, Memory as OfMemory}
 use Rattle.history_reading.specs.QuickEntries.{IsQuickEntry}
 use Rattle.history_reading.specs.Readers.{HasFault, HasRead, HasTaken, IfRead, IsFaultOf, begun_of, bytes_left, lines_of, next_line, reading_behind}
 use Rattle.history_reading.specs.Readings.{Head, LineRead, OfEntry, Reading, ends_with, next_in, read_on, reading_from, with_entry}
-use Rattle.mesh_devices.specs.Ends.{end_fault, is_full, long_line}
+use Rattle.text_devices.specs.Ends.{end_fault, is_full, long_line}
 use Rattle.text_words.specs.RecordedWords.{IsNarrow, IsSized, plain_entry}
 use Rattle.history_reading.specs.declared.reading.EntryReader.{EntryReader}
 use Rattle.text_words.specs.declared.recorded.RecordedEntry.{RecordedEntry}

@@ -1,8 +1,8 @@
 -- The length of an object that a command of a history asks for.
 use Rattle.std.proofs.Common.{ℕ}
-use Rattle.mesh_fields.specs.Commands.{IsWithin, plain_command}
-use Rattle.mesh_fields.specs.declared.commands.SpeltCommand.{SpeltCommand}
-use Rattle.mesh_fields.specs.declared.commands.SpeltCommand.TheVariants.{New as SpeltNew, Put as SpeltPut, Get as SpeltGet, Free as SpeltFree, Alias as SpeltAlias, Addr as SpeltAddr, Peek as SpeltPeek, Poke as SpeltPoke, Copy as SpeltCopy}
+use Rattle.text_fields.specs.Commands.{IsWithin, plain_command}
+use Rattle.text_fields.specs.declared.commands.SpeltCommand.{SpeltCommand}
+use Rattle.text_fields.specs.declared.commands.SpeltCommand.TheVariants.{New as SpeltNew, Put as SpeltPut, Get as SpeltGet, Free as SpeltFree, Alias as SpeltAlias, Addr as SpeltAddr, Peek as SpeltPeek, Poke as SpeltPoke, Copy as SpeltCopy}
 use Rattle.text_words.specs.RecordedWords.{IsSized}
 
 -- a command within the ranges of a history asks for 2^47 bytes at most

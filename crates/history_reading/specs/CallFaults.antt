@@ -1,6 +1,6 @@
 -- Why the reading of a history of overlapping calls stops.
-use Rattle.mesh_devices.specs.declared.faults.ReplayError.{ReplayError}
-use Rattle.mesh_devices.specs.declared.faults.ReplayError.TheVariants.{Text as FaultyText, Read as FailedRead, Write as FailedWrite, Memory as OfMemory}
+use Rattle.text_devices.specs.declared.faults.ReplayError.{ReplayError}
+use Rattle.text_devices.specs.declared.faults.ReplayError.TheVariants.{Text as FaultyText, Read as FailedRead, Write as FailedWrite, Memory as OfMemory}
 use Rattle.history_reading.specs.declared.faults.CallError.{CallError}
 use Rattle.history_reading.specs.declared.faults.CallError.TheVariants.{Text, Read, Memory}
 

@@ -10,7 +10,7 @@ use Rattle.model_words.specs.declared.commands.Reply.{Reply}
 use Rattle.model_words.specs.declared.commands.Reply.TheVariants.{Object as Made, Done, Bytes, At, Refused}
 use Rattle.model_words.specs.declared.faults.FaultKind.{FaultKind}
 use Rattle.model_words.specs.declared.faults.FaultKind.TheVariants.{Word}
-use Rattle.mesh_fields.specs.Lines.{bytes_fit, line_fields}
+use Rattle.text_fields.specs.Lines.{bytes_fit, line_fields}
 use Rattle.history_reading.specs.HistoryFiles.{arrow_split, command_in}
 use Rattle.text_words.specs.ReplyWords.{answer_in}
 

@@ -5,7 +5,7 @@ use Rattle.model_intervals.specs.Intervals.{Call}
 use Rattle.model_jobs.specs.JobFiles.{fault_at}
 use Rattle.model_words.specs.declared.faults.FaultKind.{FaultKind}
 use Rattle.model_words.specs.declared.faults.TextFault.{TextFault}
-use Rattle.mesh_devices.specs.LineInputs.{HasCome as LinesCome, IsFresh as IsFreshInput, lines_of}
+use Rattle.text_devices.specs.LineInputs.{HasCome as LinesCome, IsFresh as IsFreshInput, lines_of}
 use Rattle.history_reading.specs.CallOrders.{IsOrderOf}
 use Rattle.history_reading.specs.CallReadings.{CallFault, CallLine, CallReading, Head, OfCall, OfText, OutOfOrder, calls_from, calls_of, is_in_order, next_in}
 use Rattle.history_reading.specs.CallWords.{plain_call}

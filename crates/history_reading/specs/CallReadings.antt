@@ -5,8 +5,8 @@ use Rattle.model_intervals.specs.Intervals.{Call}
 use Rattle.model_jobs.specs.JobFiles.{fault_at}
 use Rattle.model_words.specs.declared.faults.FaultKind.{FaultKind}
 use Rattle.model_words.specs.declared.faults.TextFault.{TextFault}
-use Rattle.mesh_fields.specs.Lines.{text_lines}
-use Rattle.mesh_devices.specs.Ends.{end_fault, is_full, too_long}
+use Rattle.text_fields.specs.Lines.{text_lines}
+use Rattle.text_devices.specs.Ends.{end_fault, is_full, too_long}
 use Rattle.history_reading.specs.CallFiles.{call_head_in, call_in}
 
 -- ---- the order of the lines

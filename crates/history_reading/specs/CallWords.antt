@@ -5,7 +5,7 @@ use Rattle.model_intervals.specs.Intervals.{Call}
 use Rattle.model_intervals.specs.OverlappingCalls.{HasEffect, cell_at}
 use Rattle.model_words.specs.Commands.{IsInRange}
 use Rattle.model_words.specs.declared.faults.FaultKind.{FaultKind}
-use Rattle.mesh_fields.specs.Commands.{IsWithin, plain_command}
+use Rattle.text_fields.specs.Commands.{IsWithin, plain_command}
 use Rattle.text_words.specs.RecordedWords.{IsNarrow, IsSized, plain_entry, plain_reply}
 use Rattle.history_reading.specs.CallFiles.{Asked}
 use Rattle.history_reading.specs.declared.asked.AskedCall.{AskedCall}

@@ -3,11 +3,11 @@ use Rattle.std.specs.Prelude.{◌≡◌, ◌⊎◌, ℕ, ◌+◌, ◌<◌, ◌�
 use Rattle.std.specs.Io.KnownBytes.{Consumes, IsAtEnd}
 use Rattle.model_memory.specs.Plain.{Entry}
 use Rattle.model_words.specs.Commands.{IsInRange}
-use Rattle.mesh_fields.specs.Commands.{plain_command}
-use Rattle.mesh_fields.specs.declared.faults.ReadFault.{ReadFault}
-use Rattle.mesh_fields.specs.declared.faults.ReadFault.TheVariants.{Text as FaultyText, Memory as OfMemory}
-use Rattle.mesh_devices.specs.declared.faults.ReplayError.{ReplayError}
-use Rattle.mesh_devices.specs.declared.faults.ReplayError.TheVariants.{Memory, Read, Text, Write}
+use Rattle.text_fields.specs.Commands.{plain_command}
+use Rattle.text_fields.specs.declared.faults.ReadFault.{ReadFault}
+use Rattle.text_fields.specs.declared.faults.ReadFault.TheVariants.{Text as FaultyText, Memory as OfMemory}
+use Rattle.text_devices.specs.declared.faults.ReplayError.{ReplayError}
+use Rattle.text_devices.specs.declared.faults.ReplayError.TheVariants.{Memory, Read, Text, Write}
 use Rattle.history_reading.specs.Readers.{bytes_left, lines_of, next_line, reading_behind}
 use Rattle.history_reading.specs.Readings.{Reading, ends_with, reading_of, with_entries, with_entry}
 use Rattle.text_words.specs.RecordedWords.{IsNarrow, IsSized, plain_entry}

@@ -7,8 +7,8 @@ use Rattle.model_words.specs.Words.{◌>>=◌, or_refuse, refuse_if}
 use Rattle.model_words.specs.declared.commands.Command.{Command}
 use Rattle.model_words.specs.declared.faults.FaultKind.{FaultKind}
 use Rattle.model_words.specs.declared.faults.FaultKind.TheVariants.{Word}
-use Rattle.mesh_fields.specs.Commands.{history_rules}
-use Rattle.mesh_fields.specs.Lines.{bytes_fit, line_fields}
+use Rattle.text_fields.specs.Commands.{history_rules}
+use Rattle.text_fields.specs.Lines.{bytes_fit, line_fields}
 use Rattle.text_words.specs.ReplyWords.{answer_in}
 
 -- the command of this word and these fields, or their fault

@@ -1,8 +1,8 @@
 -- What holds of an entry that is read in one pass over the text.
 use Rattle.std.specs.Prelude.{◌≡◌, ℕ, ◌≤◌, List, ◌∷◌, ◌++◌, Ok, length}
 use Rattle.model_words.specs.Commands.{IsInRange}
-use Rattle.mesh_fields.specs.Commands.{plain_command}
-use Rattle.mesh_fields.specs.KeptLines.{IsUnended}
+use Rattle.text_fields.specs.Commands.{plain_command}
+use Rattle.text_fields.specs.KeptLines.{IsUnended}
 use Rattle.history_reading.specs.HistoryFiles.{entry_in}
 use Rattle.text_words.specs.RecordedWords.{IsNarrow, IsSized, plain_entry}
 use Rattle.text_words.specs.declared.recorded.RecordedEntry.{RecordedEntry}

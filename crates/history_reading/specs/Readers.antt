@@ -3,10 +3,10 @@
 use Rattle.std.specs.Prelude.{◌≡◌, ℕ, ◌+◌, ◌-◌, ◌<◌, ◌≤◌, if◌then◌else◌, nat_eq, List, [], ◌++◌, Option, Some, Result, Err, IfOk, IfSome, length}
 use Rattle.model_words.specs.Commands.{IsInRange}
 use Rattle.model_words.specs.declared.faults.TextFault.{TextFault}
-use Rattle.mesh_fields.specs.Commands.{plain_command}
-use Rattle.mesh_fields.specs.Lines.{text_lines}
-use Rattle.mesh_fields.specs.declared.faults.ReadFault.{ReadFault}
-use Rattle.mesh_fields.specs.declared.faults.ReadFault.TheVariants.{Text, Memory as OfMemory}
+use Rattle.text_fields.specs.Commands.{plain_command}
+use Rattle.text_fields.specs.Lines.{text_lines}
+use Rattle.text_fields.specs.declared.faults.ReadFault.{ReadFault}
+use Rattle.text_fields.specs.declared.faults.ReadFault.TheVariants.{Text, Memory as OfMemory}
 use Rattle.history_reading.specs.Readings.{LineRead, Reading, ends_with, reading_from, with_entry}
 use Rattle.text_words.specs.RecordedWords.{IsNarrow, IsSized, plain_entry}
 use Rattle.history_reading.specs.declared.reading.EntryReader.{EntryReader}

@@ -6,8 +6,8 @@ use Rattle.model_words.specs.Words.{◌>>=◌}
 use Rattle.model_words.specs.declared.faults.FaultKind.{FaultKind}
 use Rattle.model_words.specs.declared.faults.FaultKind.TheVariants.{Cut, LongLine, TooLong}
 use Rattle.model_words.specs.declared.faults.TextFault.{TextFault}
-use Rattle.mesh_devices.specs.Ends.{end_fault, is_full, too_long}
-use Rattle.mesh_fields.specs.Lines.{text_lines}
+use Rattle.text_devices.specs.Ends.{end_fault, is_full, too_long}
+use Rattle.text_fields.specs.Lines.{text_lines}
 use Rattle.history_reading.specs.HistoryFiles.{entry_in, head_in}
 
 -- what a line is read as: the head of a history, or an entry

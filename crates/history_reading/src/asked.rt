@@ -2,14 +2,14 @@
 ghost use Rattle.std.specs.Prelude.{◌≡◌};
 ghost use Rattle.history_reading.specs.CallFiles.{call_asked_in, is_object_word, object_command_in};
 ghost use Rattle.history_reading.specs.CallWords.{IsAskedRead};
-ghost use Rattle.mesh_fields.specs.Commands.{IsReadAs};
-ghost use Rattle.mesh_fields.specs.Lines.{texts};
-ghost use Rattle.mesh_fields.specs.declared.commands.Dialect.{Dialect};
+ghost use Rattle.text_fields.specs.Commands.{IsReadAs};
+ghost use Rattle.text_fields.specs.Lines.{texts};
+ghost use Rattle.text_fields.specs.declared.commands.Dialect.{Dialect};
 
-use mesh_fields::commands::{Dialect, SpeltCommand, command_of};
-use mesh_fields::lines::is_word;
-use mesh_fields::numbers::{number, number32};
 use model_words::FaultKind;
+use text_fields::commands::{Dialect, SpeltCommand, command_of};
+use text_fields::lines::is_word;
+use text_fields::numbers::{number, number32};
 
 /// The greatest number that a worker can have.
 const MAX_WORKER: u32 = 65_535;

@@ -7,12 +7,12 @@ ghost use Rattle.history_reading.specs.CallInputs.{HasCome, HasEnded, HasNext, H
 ghost use Rattle.history_reading.specs.CallOrders.{IsOrderOf};
 ghost use Rattle.history_reading.specs.CallWords.{IsReadCall, plain_call};
 ghost use Rattle.history_reading.specs.declared.faults.CallError.{CallError};
-ghost use Rattle.mesh_devices.specs.LineInputs.{line_of};
+ghost use Rattle.text_devices.specs.LineInputs.{line_of};
 
 use crate::order::CallOrder;
 use crate::{CallError, TimedCall, read_call, read_call_head};
-use mesh_devices::{LineInput, Source, fault_at};
 use std::alloc::{AllocError, Global};
+use text_devices::{LineInput, Source, fault_at};
 
 /// A history of overlapping calls that is read from a device, after a beginning of the text was read.
 #[derive(Drop)]

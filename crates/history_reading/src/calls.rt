@@ -4,17 +4,17 @@ ghost use Rattle.std.specs.List.{list_any};
 ghost use Rattle.model_jobs.specs.JobFiles.{is_empty};
 ghost use Rattle.history_reading.specs.CallFiles.{call_head_in, call_in, call_of, effect_in, has_effect};
 ghost use Rattle.history_reading.specs.CallWords.{IsCallRead, IsReadCall, plain_call};
-ghost use Rattle.mesh_fields.specs.Commands.{plain_command};
-ghost use Rattle.mesh_fields.specs.Lines.{line_fields, texts};
+ghost use Rattle.text_fields.specs.Commands.{plain_command};
+ghost use Rattle.text_fields.specs.Lines.{line_fields, texts};
 ghost use Rattle.history_reading.specs.HistoryFiles.{arrow_split};
 ghost use Rattle.text_words.specs.RecordedWords.{IsReplyRead, plain_reply};
 
 use crate::TimedCall;
 use crate::asked::call_asked_of;
 use crate::entries::arrow_split;
-use mesh_fields::commands::SpeltCommand;
-use mesh_fields::lines::{check_bytes, fields_of, fields_up_to, header};
 use model_words::FaultKind;
+use text_fields::commands::SpeltCommand;
+use text_fields::lines::{check_bytes, fields_of, fields_up_to, header};
 use text_words::{RecordedEntry, RecordedReply, reply_of};
 
 /// The version of a history of overlapping calls.

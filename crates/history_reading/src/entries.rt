@@ -1,16 +1,16 @@
 //! Reads the lines of a recorded history: the first line, and the lines of entries.
 ghost use Rattle.std.specs.Prelude.{◌≡◌, IfOk, IfErr, IfSome, IsNone, Ok, Err, Some, None};
 ghost use Rattle.model_words.specs.Commands.{IsInRange};
-ghost use Rattle.mesh_fields.specs.Commands.{plain_command};
-ghost use Rattle.mesh_fields.specs.Lines.{texts};
+ghost use Rattle.text_fields.specs.Commands.{plain_command};
+ghost use Rattle.text_fields.specs.Lines.{texts};
 ghost use Rattle.history_reading.specs.HistoryFiles.{arrow_split, asked_in, entry_in, entry_of, head_in};
 ghost use Rattle.text_words.specs.ReplyWords.{answer_in};
 ghost use Rattle.text_words.specs.RecordedWords.{IsNarrow, IsSized, plain_entry, plain_reply};
 
-use mesh_fields::commands::{Dialect, SpeltCommand, command_of};
-use mesh_fields::lines::{check_bytes, fields_of, header, is_word};
-use mesh_fields::numbers::number32;
 use model_words::FaultKind;
+use text_fields::commands::{Dialect, SpeltCommand, command_of};
+use text_fields::lines::{check_bytes, fields_of, header, is_word};
+use text_fields::numbers::number32;
 use text_words::{RecordedEntry, RecordedReply, reply_of};
 
 /// The only version of a recorded history.

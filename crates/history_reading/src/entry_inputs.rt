@@ -2,15 +2,15 @@
 ghost use Rattle.std.specs.Prelude.{◌≡◌, ◌<◌, ◌≤◌, ◌∷◌, ◌++◌, ℕ, List, Option, Err, [], false, true, IfErr, IfOk, IfSome, IsNone, OnOk};
 ghost use Rattle.model_memory.specs.Plain.{Entry};
 ghost use Rattle.model_words.specs.Commands.{IsInRange};
-ghost use Rattle.mesh_devices.specs.declared.faults.ReplayError.{ReplayError};
-ghost use Rattle.mesh_fields.specs.Commands.{plain_command};
+ghost use Rattle.text_devices.specs.declared.faults.ReplayError.{ReplayError};
+ghost use Rattle.text_fields.specs.Commands.{plain_command};
 ghost use Rattle.history_reading.specs.EntryInputs.{EndsWithFault, HasCome, HasEnded, HasStopped, IsFault, IsFresh, IsNext, IsUsedUp, MayEnd, lines_before};
 ghost use Rattle.text_words.specs.RecordedWords.{IsNarrow, IsSized, plain_entry};
 
 use crate::{EntryReader, RecordedEntry};
-use mesh_devices::{Pending, ReplayError, Source};
-use mesh_fields::faults::ReadFault;
 use std::alloc::{AllocError, Global};
+use text_devices::{Pending, ReplayError, Source};
+use text_fields::faults::ReadFault;
 
 /// A recorded history that is being read from a device.
 #[derive(Drop)]

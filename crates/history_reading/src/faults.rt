@@ -3,9 +3,9 @@ ghost use Rattle.std.specs.Prelude.{◌≡◌};
 ghost use Rattle.history_reading.specs.CallFaults.{call_error_of};
 ghost use Rattle.history_reading.specs.declared.faults.CallError.{CallError};
 
-use mesh_devices::ReplayError;
 use model_words::TextFault;
 use std::alloc::AllocError;
+use text_devices::ReplayError;
 use thiserror::Error;
 
 /// The reason why the reading of a history of overlapping calls stopped.

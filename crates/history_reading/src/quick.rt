@@ -5,8 +5,8 @@ ghost use Rattle.history_reading.specs.QuickEntries.{IsQuickEntry};
 
 use crate::entries::MAX_WORKER;
 use crate::{RecordedEntry, RecordedReply};
-use mesh_fields::commands::{MAX_RECORDED_LENGTH, SpeltCommand};
-use mesh_fields::quick::{behind_all, number, wide_address, word};
+use text_fields::commands::{MAX_RECORDED_LENGTH, SpeltCommand};
+use text_fields::quick::{behind_all, number, wide_address, word};
 
 /// Returns the entry in the first line of the text, and the bytes after the line's end.
 ///

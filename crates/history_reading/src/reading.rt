@@ -2,19 +2,19 @@
 ghost use Rattle.std.specs.Prelude.{◌≡◌, ◌∷◌, ◌++◌, ◌≤◌, ℕ, List, Ok, Err, Some, None, [], false, length, IfErr, IfOk, IfSome, IsNone, OnOk};
 ghost use Rattle.model_jobs.specs.JobFiles.{fault_at};
 ghost use Rattle.model_words.specs.Commands.{IsInRange};
-ghost use Rattle.mesh_fields.specs.Commands.{plain_command};
-ghost use Rattle.mesh_fields.specs.KeptLines.{IsUnended};
+ghost use Rattle.text_fields.specs.Commands.{plain_command};
+ghost use Rattle.text_fields.specs.KeptLines.{IsUnended};
 ghost use Rattle.history_reading.specs.Readers.{HasFault, HasRead, HasTaken, IfRead, IsFaultOf, begun_of, lines_of, reading_behind};
 ghost use Rattle.history_reading.specs.Readings.{Head, OfEntry, ends_with, next_in, reading_of};
-ghost use Rattle.mesh_devices.specs.Ends.{end_fault, is_full, long_line};
+ghost use Rattle.text_devices.specs.Ends.{end_fault, is_full, long_line};
 ghost use Rattle.text_words.specs.RecordedWords.{IsNarrow, IsSized, plain_entry};
 
 use crate::{RecordedEntry, quick_entry, read_entry, read_head};
-use mesh_devices::{BegunLine, end_fault, fault_at, long_line};
-use mesh_fields::faults::ReadFault;
-use mesh_fields::lines::cut;
 use model_words::{FaultKind, TextFault};
 use std::alloc::Global;
+use text_devices::{BegunLine, end_fault, fault_at, long_line};
+use text_fields::faults::ReadFault;
+use text_fields::lines::cut;
 
 /// A reader of a recorded history, after it has read a beginning of the text.
 #[derive(Drop)]

@@ -1,7 +1,9 @@
-//! The functions of the program `meshrun`, in `mesh_run`.
+//! The functions of the program `meshrun`, in `run_program`.
 ghost use Rattle.std.specs.Prelude.{◌≡◌, false};
 
-use mesh_run::{Args, Sink, Source, Stop, ThreadsArgs, arguments, replay_run, threads_run, words};
+use run_program::{
+    Args, Sink, Source, Stop, ThreadsArgs, arguments, replay_run, threads_run, words,
+};
 use std::alloc::{AllocError, Global};
 use std::sync::Wait;
 use std::thread::Threads;

@@ -1,7 +1,7 @@
 //! A running mesh: its two groups, and its progress.
 //!
-//! The heap and `mesh_table::Table` each keep a list of running meshes. In contracts, a running mesh is a `Mesh` of the
-//! definitions.
+//! The heap and `explore_table::Table` each keep a list of running meshes. In contracts, a running mesh is a `Mesh` of
+//! the definitions.
 #![tactic(auto)]
 
 mod progress;

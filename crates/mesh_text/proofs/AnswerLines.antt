@@ -6,10 +6,10 @@ use Rattle.std.proofs.lemmas.Grind.{flat_map-append}
 use Rattle.std.specs.Io.KnownBytes.{Appends}
 use Rattle.model_jobs.specs.Jobs.{Answer, Job, Line, State, answer, answers_from, initial_state, state_after}
 use Rattle.model_jobs.specs.Texts.{answer_text, ended, output}
-use Rattle.mesh_job.specs.Plan.{line_of}
-use Rattle.mesh_job.specs.declared.plan.PlanLine.{PlanLine}
+use Rattle.text_job.specs.Plan.{line_of}
+use Rattle.text_job.specs.declared.plan.PlanLine.{PlanLine}
 use Rattle.mesh_mutator.specs.Book.{Book}
-use Rattle.mesh_devices.specs.Transfer.{AppendsBeginning}
+use Rattle.text_devices.specs.Transfer.{AppendsBeginning}
 use Rattle.mesh_text.specs.Turns.{HasGathered, IsAt, IsTold, lines_of, lines_up_to, state_up_to}
 use Rattle.mesh_text.proofs.PlanLines.{one_more}
 

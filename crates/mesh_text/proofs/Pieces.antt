@@ -8,14 +8,14 @@ use Rattle.std.specs.Io.KnownBytes.{Consumes, IsAtEnd}
 use Rattle.std.specs.List.{copy_within}
 use Rattle.model_jobs.specs.JobFiles.{read_text}
 use Rattle.model_jobs.specs.Jobs.{Job}
-use Rattle.mesh_job.specs.Faults.{IsReadFault}
-use Rattle.mesh_job.specs.Taken.{HasTaken}
-use Rattle.mesh_fields.specs.declared.faults.ReadFault.{ReadFault}
-use Rattle.mesh_fields.specs.declared.faults.ReadFault.TheVariants.{Text as ReadText, Memory as ReadMemory}
-use Rattle.mesh_job.specs.declared.reader.Reading.{Reading}
-use Rattle.mesh_devices.specs.Faults.{replay_error_of}
+use Rattle.text_job.specs.Faults.{IsReadFault}
+use Rattle.text_job.specs.Taken.{HasTaken}
+use Rattle.text_fields.specs.declared.faults.ReadFault.{ReadFault}
+use Rattle.text_fields.specs.declared.faults.ReadFault.TheVariants.{Text as ReadText, Memory as ReadMemory}
+use Rattle.text_job.specs.declared.reader.Reading.{Reading}
+use Rattle.text_devices.specs.Faults.{replay_error_of}
 use Rattle.mesh_text.specs.Replay.{HasReadInto, HasReadJob, HasReadNoJob, IsHeld}
-use Rattle.mesh_devices.specs.declared.faults.ReplayError.{ReplayError}
+use Rattle.text_devices.specs.declared.faults.ReplayError.{ReplayError}
 
 -- what was held behind the bytes that were taken is moved to the front
 moved_front : (buffer : List ℕ) (taken held : ℕ) → taken ≤ held → held ≤ length buffer

@@ -6,8 +6,8 @@ use Rattle.std.proofs.lemmas.List.Elements.{All-get_or}
 use Rattle.model_jobs.specs.JobFiles.{IsValidLine}
 use Rattle.model_jobs.specs.Jobs.{Line}
 use Rattle.model_words.specs.declared.versions.Version.{Version}
-use Rattle.mesh_job.specs.declared.plan.PlanLine.{PlanLine}
-use Rattle.mesh_job.specs.Plan.{line_of}
+use Rattle.text_job.specs.declared.plan.PlanLine.{PlanLine}
+use Rattle.text_job.specs.Plan.{line_of}
 
 -- a line of a plan whose lines are all right
 pub line_fits : (version : Version) (workers : ℕ) (lines : List PlanLine) (plan : List Line) (i : ℕ) (d line : PlanLine) → map line_of lines ≡ plan

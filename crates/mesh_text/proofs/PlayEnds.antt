@@ -5,8 +5,8 @@ use Rattle.std.specs.Result.{IsErr, IsErrAnd, OnErr}
 use Rattle.std.specs.Io.KnownBytes.{Appends}
 use Rattle.model_jobs.specs.Jobs.{Job}
 use Rattle.mesh_text.specs.Turns.{HasGathered}
-use Rattle.mesh_devices.specs.declared.faults.ReplayError.{ReplayError}
-use Rattle.mesh_devices.specs.declared.faults.ReplayError.TheVariants.{Memory, Write}
+use Rattle.text_devices.specs.declared.faults.ReplayError.{ReplayError}
+use Rattle.text_devices.specs.declared.faults.ReplayError.TheVariants.{Memory, Write}
 
 -- nothing is gathered before the first line
 pub nothing_written : (old : Option (List ℕ)) → Appends old old []

@@ -1,6 +1,6 @@
 pub mod Recorded
 pub mod Replay
 pub mod Turns
-pub use Rattle.mesh_job.specs.Job
-pub use Rattle.mesh_job.specs.Lines
-pub use Rattle.mesh_job.specs.Taken
+pub use Rattle.text_job.specs.Job
+pub use Rattle.text_job.specs.Lines
+pub use Rattle.text_job.specs.Taken

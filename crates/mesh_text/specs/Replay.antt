@@ -5,12 +5,12 @@ use Rattle.model_jobs.specs.JobFiles.{read_text, replayed}
 use Rattle.model_jobs.specs.Jobs.{Job}
 use Rattle.model_jobs.specs.Texts.{output}
 use Rattle.model_words.specs.declared.faults.TextFault.{TextFault}
-use Rattle.mesh_job.specs.Taken.{HasTaken}
-use Rattle.mesh_job.specs.declared.reader.Reading.{Reading}
-use Rattle.mesh_devices.specs.Transfer.{AppendsBeginning}
+use Rattle.text_job.specs.Taken.{HasTaken}
+use Rattle.text_job.specs.declared.reader.Reading.{Reading}
+use Rattle.text_devices.specs.Transfer.{AppendsBeginning}
 use Rattle.mesh_text.specs.Turns.{AppendsLines}
-use Rattle.mesh_devices.specs.declared.faults.ReplayError.{ReplayError}
-use Rattle.mesh_devices.specs.declared.faults.ReplayError.TheVariants.{Read, Write, Text, Memory}
+use Rattle.text_devices.specs.declared.faults.ReplayError.{ReplayError}
+use Rattle.text_devices.specs.declared.faults.ReplayError.TheVariants.{Read, Write, Text, Memory}
 
 -- this text was read from the input: all of it up to the end of the input, or 1048577 bytes, which is one byte more
 -- than a job file may have

@@ -7,7 +7,7 @@
 //! `replay_recorded` runs the plan too, but writes the journal as a recorded history instead of the answers. `read_job`
 //! only reads the job. `Turns` runs a plan line by line.
 //!
-//! `mesh_job` defines the job and reads its file. `mesh_spelling` defines the text of an answer. In contracts, an input
+//! `text_job` defines the job and reads its file. `text_spelling` defines the text of an answer. In contracts, an input
 //! device has the bytes that are left to read, and an output device has the bytes that it has accepted, as far as these
 //! bytes are known. Each device also has a flag that is true if a call of the device has failed.
 //!
@@ -20,14 +20,14 @@ mod recorded;
 mod run;
 mod turns;
 
-pub use mesh_devices::{
-    DeviceFault, Input, Output, ReplayError, Sink, Source, read_some, write_all, write_lines,
-};
-pub use mesh_job::{Commands, Job, Plan, PlanLine, ReadFault, Script, Scripts, read_file};
-pub use mesh_spelling::{add_longer_job, add_plan_line, history_lines, recorded_history};
 pub use model_words::{Command, FaultKind, MAX_BYTES, Reply, TextFault, Version};
 pub use reading::read_job;
 pub use recorded::replay_recorded;
 pub use run::replay;
+pub use text_devices::{
+    DeviceFault, Input, Output, ReplayError, Sink, Source, read_some, write_all, write_lines,
+};
+pub use text_job::{Commands, Job, Plan, PlanLine, ReadFault, Script, Scripts, read_file};
+pub use text_spelling::{add_longer_job, add_plan_line, history_lines, recorded_history};
 pub use text_words::{add_bytes, add_command, add_decimal, add_refusal, add_reply};
 pub use turns::Turns;

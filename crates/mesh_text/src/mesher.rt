@@ -3,15 +3,15 @@ ghost use Rattle.std.specs.Prelude.{◌≡◌, IfOk};
 ghost use Rattle.model_jobs.specs.Jobs.{PagesMeshed, PairsFound, StepsLeft, busy_in, counted, step_answered, told};
 ghost use Rattle.model_heap.specs.Mesh.{begin, cancel, first_mesh, mesh_whole, step};
 ghost use Rattle.model_search.specs.Search.{search, view_of};
-ghost use Rattle.mesh_spelling.specs.Answers.{count_told, step_told};
+ghost use Rattle.text_spelling.specs.Answers.{count_told, step_told};
 ghost use Rattle.mesh_text.specs.Turns.{IsCall};
 
-use mesh_job::Search;
 use mesh_mutator::Book;
 use mesh_search::{Found, search_one};
 use mesh_steps::StepDone;
 use model_words::{Refusal, Version};
 use std::alloc::{AllocError, Global};
+use text_job::Search;
 
 /// Searches a class for pairs of groups that can be meshed. The book isn't changed.
 pub(crate) fn pair(alloc: Global, book: &Book, asked: &Search) -> Result<Found, AllocError>

@@ -1,11 +1,11 @@
 //! The reading of a job from a device.
 ghost use Rattle.std.specs.Prelude.{◌≡◌, ◌+◌, ◌≤◌, ◌⊎◌, false, true, ℕ, List, [], length, take, vec_len, IfOk, IfErr, OnOk};
-ghost use Rattle.mesh_job.specs.Taken.{HasTaken, IsReading, bytes_taken};
+ghost use Rattle.text_job.specs.Taken.{HasTaken, IsReading, bytes_taken};
 ghost use Rattle.mesh_text.specs.Replay.{HasReadInto, HasReadJob, HasReadNoJob, IsHeld};
 
-use mesh_devices::{ReplayError, Source, read_some};
-use mesh_job::{Job, MAX_FILE_BYTES, Reading};
 use std::alloc::{AllocError, Global};
+use text_devices::{ReplayError, Source, read_some};
+use text_job::{Job, MAX_FILE_BYTES, Reading};
 
 /// The greatest number of bytes that are read: one more than a job file may have. With the additional byte, a file that
 /// is too long is recognized.

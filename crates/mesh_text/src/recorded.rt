@@ -1,18 +1,18 @@
 //! The replay that writes a recorded history instead of the answers.
 ghost use Rattle.std.specs.Prelude.{◌≡◌, ◌⊎◌, false, true, length, IfOk, IfErr, OnOk};
 ghost use Rattle.std.specs.Io.KnownBytes.{Appends, Keeps};
-ghost use Rattle.mesh_spelling.specs.Recordings.{recorded_text};
+ghost use Rattle.text_spelling.specs.Recordings.{recorded_text};
 ghost use Rattle.mesh_text.specs.Recorded.{HasReplayedRecorded, HasStoppedRecorded, journal_of};
-ghost use Rattle.mesh_devices.specs.Transfer.{AppendsBeginning};
+ghost use Rattle.text_devices.specs.Transfer.{AppendsBeginning};
 ghost use Rattle.mesh_text.specs.Turns.{StandsBehind};
-ghost use Rattle.mesh_devices.specs.declared.faults.ReplayError.{ReplayError};
+ghost use Rattle.text_devices.specs.declared.faults.ReplayError.{ReplayError};
 
 use crate::reading::read_job;
 use crate::turns::Turns;
-use mesh_devices::{ReplayError, Sink, Source, write_lines};
-use mesh_job::Job;
-use mesh_spelling::recorded_journal;
 use std::alloc::{AllocError, Global};
+use text_devices::{ReplayError, Sink, Source, write_lines};
+use text_job::Job;
+use text_spelling::recorded_journal;
 
 /// Replays the job file that the input contains, and writes the recorded history of its journal instead of the answers.
 ///

@@ -4,14 +4,14 @@ ghost use Rattle.std.specs.Io.KnownBytes.{Appends, Keeps};
 ghost use Rattle.model_jobs.specs.Jobs.{initial_state};
 ghost use Rattle.model_jobs.specs.Texts.{output as output_of};
 ghost use Rattle.mesh_text.specs.Replay.{HasReplayed, HasStopped};
-ghost use Rattle.mesh_devices.specs.Transfer.{AppendsBeginning};
+ghost use Rattle.text_devices.specs.Transfer.{AppendsBeginning};
 ghost use Rattle.mesh_text.specs.Turns.{AppendsLines, IsAt};
 
 use crate::reading::read_job;
 use crate::turns::Turns;
-use mesh_devices::{ReplayError, Sink, Source, write_lines};
-use mesh_job::Job;
 use std::alloc::Global;
+use text_devices::{ReplayError, Sink, Source, write_lines};
+use text_job::Job;
 
 /// Collected answer lines are written to the output once they have at least this number of bytes, and at the end of the
 /// plan.

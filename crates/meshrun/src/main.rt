@@ -15,9 +15,9 @@
 #![tactic(auto)]
 
 ghost use Rattle.std.specs.Prelude.{◌≡◌, false};
-ghost use Rattle.mesh_run.specs.Runs.{IsSound};
+ghost use Rattle.run_program.specs.Runs.{IsSound};
 
-use mesh_run::{
+use run_program::{
     Args, Begun, Criteria, Devices, ExploreArgs, Input, Output, Patterns, Progress, Sink, Source,
     Told, arguments, check_run, draw_run, expected_run, explore_run, live_run, order_run, patterns,
     replay_history_run, replay_run, savings_run, stop_run, threads_history_run, threads_run,

@@ -6,7 +6,7 @@ use Rattle.model_words.specs.declared.commands.Command.TheVariants.{New}
 use Rattle.model_words.specs.declared.commands.Reply.{Reply}
 use Rattle.model_words.specs.declared.commands.Reply.TheVariants.{Object as Made, Done, Bytes, At, Byte, Refused}
 use Rattle.model_words.specs.declared.faults.FaultKind.{FaultKind}
-use Rattle.mesh_fields.specs.Commands.{plain_command}
+use Rattle.text_fields.specs.Commands.{plain_command}
 use Rattle.text_words.specs.declared.recorded.RecordedReply.{RecordedReply}
 use Rattle.text_words.specs.declared.recorded.RecordedReply.TheVariants.{Object as RecordedObject, Done as RecordedDone, Bytes as RecordedBytes, At as RecordedAt, Byte as RecordedByte, Refused as RecordedRefused}
 use Rattle.text_words.specs.declared.recorded.RecordedEntry.{RecordedEntry}

@@ -9,7 +9,7 @@ use Rattle.model_words.specs.declared.faults.FaultKind.{FaultKind}
 use Rattle.model_words.specs.declared.faults.FaultKind.TheVariants.{Word}
 use Rattle.model_words.specs.declared.refusals.Refusal.{Refusal}
 use Rattle.model_words.specs.declared.refusals.Refusal.TheVariants.{Zero, TooLarge, NoPages, NoAddresses, Empty, Freed, Outside, Stray, NoGroup, Same, Class, Busy, Overlap, Members, NoMesh, TooLate, NotEmpty}
-use Rattle.mesh_fields.specs.Commands.{place_in, wide_in}
+use Rattle.text_fields.specs.Commands.{place_in, wide_in}
 
 -- the refusal with this number from 1 to 17
 abbrev pub refusal_of : ℕ → Refusal

@@ -2,13 +2,13 @@
 ghost use Rattle.std.specs.Prelude.{◌≡◌, ◌≤◌, ◌++◌, ◌∷◌, [], codes, length, OnOk};
 ghost use Rattle.std.specs.List.{flat_map};
 ghost use Rattle.model_jobs.specs.Texts.{address_text, bytes_text, command_text, field, number_field};
-ghost use Rattle.mesh_fields.specs.Commands.{plain_command};
+ghost use Rattle.text_fields.specs.Commands.{plain_command};
 ghost use Rattle.text_words.specs.CommandTexts.{NamesObject};
 
 use crate::answers::{add_address, add_bytes, add_decimal};
-use mesh_fields::commands::SpeltCommand;
 use model_words::Command;
 use std::alloc::AllocError;
+use text_fields::commands::SpeltCommand;
 
 /// Appends a command, as a job file has it.
 pub fn add_command(text: &mut Vec<u8>, command: &Command) -> Result<(), AllocError>

@@ -1,7 +1,7 @@
 //! The entries of a recorded history: commands and their answers.
 use arrayvec::ArrayVec;
-use mesh_fields::commands::SpeltCommand;
 use model_words::{MAX_BYTES, Refusal};
+use text_fields::commands::SpeltCommand;
 
 /// The recorded answer of the allocator.
 #[derive(Clone, Drop, PartialEq, Eq)]

@@ -2,9 +2,9 @@
 ghost use Rattle.std.specs.Prelude.{◌≡◌};
 ghost use Rattle.text_words.specs.ReplyWords.{refusal_in, refusal_of};
 
-use mesh_fields::lines::is_word;
-use mesh_fields::numbers::number32;
 use model_words::{FaultKind, Refusal};
+use text_fields::lines::is_word;
+use text_fields::numbers::number32;
 
 /// The greatest number of a refusal.
 const MAX_REFUSAL: u32 = 17;

@@ -1,14 +1,14 @@
 //! Reads the answers of a recorded history. The fields of an answer are read from left to right.
-ghost use Rattle.mesh_fields.specs.Lines.{texts};
+ghost use Rattle.text_fields.specs.Lines.{texts};
 ghost use Rattle.text_words.specs.ReplyWords.{at_in, done_in, loaded_in, object_in, peeked_in, refused_in, reply_in};
 ghost use Rattle.text_words.specs.RecordedWords.{IsReplyRead};
 
 use crate::RecordedReply;
 use crate::refusals::refusal_named;
-use mesh_fields::commands::wide;
-use mesh_fields::hex::{byte, bytes, wide_address};
-use mesh_fields::lines::{is_word, no_field, one_field, three_fields, two_fields};
 use model_words::FaultKind;
+use text_fields::commands::wide;
+use text_fields::hex::{byte, bytes, wide_address};
+use text_fields::lines::{is_word, no_field, one_field, three_fields, two_fields};
 
 /// Returns the answer with this word and these fields. The error is WORD if no answer has this word, or if the answer
 /// has another number of fields. Otherwise the error is that of the leftmost faulty field.

@@ -1,4 +1,4 @@
-use Rattle.mesh_fields.specs.Lines.{texts}
+use Rattle.text_fields.specs.Lines.{texts}
 use Rattle.history_reading.proofs.CallLines.{call_read}
 use Rattle.history_reading.proofs.calls.call_of.Goals as goal
 

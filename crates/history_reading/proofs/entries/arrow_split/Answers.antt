@@ -3,7 +3,7 @@ use Rattle.std.specs.List.{position}
 use Rattle.std.proofs.lemmas.Iterator.{YieldsList-from_slice}
 use Rattle.std.proofs.lemmas.Iterator.Search.{position_from_yields_List}
 use Rattle.std.proofs.lemmas.List.{take_rest}
-use Rattle.mesh_fields.specs.Lines.{texts}
+use Rattle.text_fields.specs.Lines.{texts}
 use Rattle.history_reading.specs.HistoryFiles.{is_arrow}
 use Rattle.history_reading.proofs.Arrows.{arrow_at, no_arrow}
 use Rattle.history_reading.proofs.entries.arrow_split.Goals as goal

@@ -1,7 +1,7 @@
 use Rattle.std.proofs.Common.{◌∙◌, List, ℕ, subst}
 use Rattle.std.proofs.lemmas.Result.{on_ok_weaker}
 use Rattle.std.specs.Io.KnownBytes.{Appends}
-use Rattle.mesh_devices.specs.Transfer.{AppendsBeginning}
+use Rattle.text_devices.specs.Transfer.{AppendsBeginning}
 use Rattle.mesh_text.proofs.PlayEnds.{last_begins, last_fails, last_kind, last_not_memory, last_ok}
 use Rattle.mesh_text.proofs.recorded.record.Goals as goal
 

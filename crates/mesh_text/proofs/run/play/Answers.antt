@@ -4,9 +4,9 @@ use Rattle.std.specs.Result.{OnErr}
 use Rattle.std.specs.Io.KnownBytes.{Appends}
 use Rattle.model_jobs.specs.JobFiles.{IsValidLine}
 use Rattle.model_jobs.specs.Jobs.{Job}
-use Rattle.mesh_job.specs.declared.plan.PlanLine.{PlanLine}
-use Rattle.mesh_job.specs.Plan.{line_of}
-use Rattle.mesh_devices.specs.Transfer.{AppendsBeginning}
+use Rattle.text_job.specs.declared.plan.PlanLine.{PlanLine}
+use Rattle.text_job.specs.Plan.{line_of}
+use Rattle.text_devices.specs.Transfer.{AppendsBeginning}
 use Rattle.mesh_text.specs.Turns.{state_up_to}
 use Rattle.mesh_text.proofs.AnswerLines.{all_written, line_gathered, output_written, part_written}
 use Rattle.mesh_text.proofs.PlanLines.{all_lines, line_fits}

@@ -1,7 +1,7 @@
 use Rattle.std.proofs.Common.{◌+◌, ◌≤◌, ap, subst, sym, ◌≡◌, ◌++◌, ◌∷◌, [], ◌∙◌, rules, refl, arith}
 use Rattle.history_reading.proofs.Readings.{handed_on}
-use Rattle.mesh_devices.specs.LineInputs.{HasCome as LinesCome, HasEnded as LinesEnded, line_of, lines_of}
-use Rattle.mesh_devices.specs.declared.lines.LineInput.{LineInput}
+use Rattle.text_devices.specs.LineInputs.{HasCome as LinesCome, HasEnded as LinesEnded, line_of, lines_of}
+use Rattle.text_devices.specs.declared.lines.LineInput.{LineInput}
 use Rattle.history_reading.specs.CallFaults.{call_error_of}
 use Rattle.history_reading.specs.CallInputs.{HasStopped, lines_before}
 use Rattle.history_reading.specs.declared.call_inputs.CallInput.{CallInput}

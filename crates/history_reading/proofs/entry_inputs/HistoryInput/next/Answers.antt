@@ -1,7 +1,7 @@
 use Rattle.std.proofs.Common.{rules, true, false, refl, ◌∙◌}
-use Rattle.mesh_devices.specs.Faults.{replay_error_of}
+use Rattle.text_devices.specs.Faults.{replay_error_of}
 use Rattle.history_reading.specs.EntryInputs.{HasStopped, IsUsedUp}
-use Rattle.mesh_devices.specs.Pendings.{HasBytes}
+use Rattle.text_devices.specs.Pendings.{HasBytes}
 use Rattle.history_reading.specs.declared.entry_inputs.HistoryInput.{HistoryInput}
 use Rattle.history_reading.proofs.EntryInputs.{ended, ended_faulty, read_on, stopped}
 use Rattle.history_reading.proofs.Readings.{handed_on}

@@ -1,6 +1,6 @@
 use Rattle.std.proofs.Common.{List, ap, sym, ℕ, ◌∙◌}
 use Rattle.history_reading.specs.Readings.{ends_with}
-use Rattle.mesh_devices.specs.Ends.{end_fault}
+use Rattle.text_devices.specs.Ends.{end_fault}
 use Rattle.history_reading.proofs.Readings.{finished}
 use Rattle.history_reading.proofs.reading.EntryReader.finish.Goals as goal
 

@@ -1,5 +1,5 @@
 use Rattle.std.proofs.Common.{ap, arith}
-use Rattle.mesh_fields.specs.declared.faults.ReadFault.TheVariants.{Text}
+use Rattle.text_fields.specs.declared.faults.ReadFault.TheVariants.{Text}
 use Rattle.history_reading.proofs.Readings.{long_kept}
 use Rattle.history_reading.proofs.reading.EntryReader.keep.Goals as goal
 

@@ -1,5 +1,5 @@
 use Rattle.std.proofs.Common.{◌++◌, ◌∷◌, [], refl}
-use Rattle.mesh_fields.proofs.KeptLines.{cut_unended, rest_unended}
+use Rattle.text_fields.proofs.KeptLines.{cut_unended, rest_unended}
 use Rattle.history_reading.specs.Readers.{HasFault, HasRead, HasTaken}
 use Rattle.history_reading.proofs.Readings.{cut_whole, err_weaker, fault_in_piece, handed_on, none_weaker, read_weaker, taken_then_fault, taken_then_read, taken_then_taken}
 use Rattle.history_reading.proofs.reading.EntryReader.next.Goals as goal

@@ -1,5 +1,5 @@
 use Rattle.std.proofs.Common.{◌≡◌, ◌++◌, ◌∷◌, [], refl, subst}
-use Rattle.mesh_fields.proofs.KeptLines.{cut_unended, rest_unended}
+use Rattle.text_fields.proofs.KeptLines.{cut_unended, rest_unended}
 use Rattle.history_reading.specs.Readers.{HasFault, HasRead}
 use Rattle.history_reading.specs.declared.reading.EntryReader.{EntryReader}
 use Rattle.history_reading.proofs.Readings.{cut_whole, fault_in_piece, handed_on, read_in_piece}

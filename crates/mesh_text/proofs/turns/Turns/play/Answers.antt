@@ -2,7 +2,7 @@ use Rattle.std.proofs.Common.{◌∙◌, ap, length, subst}
 use Rattle.std.proofs.lemmas.Result.{on_ok_weaker}
 use Rattle.model_jobs.specs.JobFiles.{IsValidLine}
 use Rattle.model_jobs.specs.Jobs.{Job}
-use Rattle.mesh_job.specs.Plan.{line_of}
+use Rattle.text_job.specs.Plan.{line_of}
 use Rattle.mesh_text.specs.Turns.{state_up_to}
 use Rattle.mesh_text.proofs.AnswerLines.{line_played}
 use Rattle.mesh_text.proofs.PlanLines.{line_fits, within_lines}

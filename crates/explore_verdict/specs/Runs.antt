@@ -1,0 +1,52 @@
+-- What a run that gives a verdict has read and found when it ends.
+use Rattle.std.specs.Prelude.{◌≡◌, ◌↔◌, ◌≤◌, ◌++◌, ℕ, Bool, true, List, Option, Some, None, codes, decimal, length}
+use Rattle.std.specs.Io.KnownBytes.{Appends}
+use Rattle.model_jobs.specs.Jobs.{Job}
+use Rattle.model_jobs.specs.Texts.{ended}
+use Rattle.explore_interleavings.specs.ExploreStates.{ExploreState}
+use Rattle.explore_interleavings.specs.InitialStates.{HasMoreThan, IsExplored}
+use Rattle.explore_interleavings.specs.declared.explorer.Explorer.{Explorer}
+use Rattle.explore_interleavings.specs.declared.pair.MeshPair.{MeshPair}
+use Rattle.explore_report.specs.Listings.{ListsAll}
+use Rattle.explore_report.specs.declared.listing.Listing.{Listing}
+use Rattle.explore_report.specs.declared.outcomes.Outcome.{Outcome}
+use Rattle.states_reach.specs.declared.reached.Reached.{Reached}
+use Rattle.mesh_text.specs.Replay.{HasReadJob}
+use Rattle.explore_verdict.specs.Expected.{blocks_of}
+use Rattle.explore_verdict.specs.Judged.{AreAsExpected}
+use Rattle.explore_verdict.specs.Never.{IsForbidden}
+use Rattle.explore_verdict.specs.Patterns.{Wanted}
+
+-- if there is a text, the outcomes are those that it lists
+abbrev pub MeetExpected : List ExploreState → List Outcome → Option (List ℕ) → Type 0
+MeetExpected states outcomes None = Unit {0}
+MeetExpected states outcomes (Some text) = AreAsExpected states outcomes (blocks_of text)
+
+-- the outcomes are those of the text, if there is one, and no outcome matches a pattern
+pub record IsWell (states : List ExploreState) (outcomes : List Outcome) (never : List Wanted) (expected : Option (List ℕ)) : Type 0 where
+  pub as_expected : MeetExpected states outcomes expected
+  pub never_had : (place : ℕ) → IsForbidden states outcomes never place → ⊥
+
+-- the line that is written if all is well
+abbrev pub well_line : Option (List ℕ) → ℕ → List ℕ
+well_line None count = ended (codes "never: none of " ++ decimal count ++ codes " outcomes")
+well_line (Some text) count = ended (codes "as expected: " ++ decimal count ++ codes " outcomes")
+
+-- `well` is the verdict on a complete listing of the job's outcomes, with these meshes and this cancel, in at most
+-- `most` states. If all is well, the text is the line of `well_line`
+pub record IsVerdictOf (pairs : List MeshPair) (cancel : Option ℕ) (most : ℕ) (never : List Wanted) (expected : Option (List ℕ)) (job : Job) (well : Bool) (text : List ℕ) : Type 0 where
+  pub reached : Reached Explorer
+  pub explored : IsExplored (record { job = job; pairs = pairs; cancel = cancel }) reached
+  pub few : length reached.system.states ≤ most
+  pub listing : Listing
+  pub lists : ListsAll (record { job = job; pairs = pairs; cancel = cancel }) reached.system.states listing
+  pub is_well : (well ≡ true) ↔ IsWell reached.system.states listing.outcomes.items never expected
+  pub line : well ≡ true → text ≡ well_line expected (length listing.outcomes.items)
+
+-- a job was read, `well` is the verdict on its outcomes, and the text of the verdict was written
+pub record HasJudged (pairs : List MeshPair) (cancel : Option ℕ) (most : ℕ) (never : List Wanted) (expected : Option (List ℕ)) (left left' written written' : Option (List ℕ)) (well : Bool) : Type 0 where
+  pub job : Job
+  pub read : HasReadJob left left' job
+  pub text : List ℕ
+  pub is_verdict : IsVerdictOf pairs cancel most never expected job well text
+  pub wrote : Appends written written' text

@@ -1,0 +1,123 @@
+//! Finds the first outcome, among those of a listing, that matches a pattern.
+ghost use Rattle.std.specs.Prelude.{◌≡◌, ◌<◌, [], ℕ, None, IfOk, IfSome, length, slice_index_or};
+ghost use Rattle.explore_verdict.specs.Judged.{HaveStates};
+ghost use Rattle.explore_verdict.specs.Never.{IsForbidden, IsMatchAt};
+ghost use Rattle.explore_verdict.specs.Patterns.{any_match, are_met, is_match, is_met};
+
+use crate::block::Block;
+use crate::judging::outcome_at;
+use crate::pattern::Pattern;
+use explore_interleavings::{Explorer, Told};
+use explore_report::Listing;
+use mesh_text::add_reply;
+use model_words::Reply;
+use states_reach::{Reached, System};
+use std::alloc::{AllocError, Global};
+use text_fields::lines::is_word;
+
+/// Returns the place, in a listing's outcomes, of the first outcome that matches one of the patterns. `None` if there
+/// is no such outcome.
+pub fn first_match(
+    alloc: Global,
+    reached: &Reached<Explorer<'_>>,
+    listing: &Listing,
+    patterns: &[Pattern],
+) -> Result<Option<usize>, AllocError>
+    requires { HaveStates reached.now.system.states listing.now.outcomes.items }
+    ensures some { IfOk result
+        (λ found. IfSome found (IsForbidden reached.now.system.states listing.now.outcomes.items patterns.now)) }
+    ensures first { IfOk result (λ found. IfSome found (λ place. (earlier : ℕ) → earlier < place
+        → IsForbidden reached.now.system.states listing.now.outcomes.items patterns.now earlier → ⊥)) }
+    ensures none { IfOk result (λ found. found ≡ None → (place : ℕ)
+        → IsForbidden reached.now.system.states listing.now.outcomes.items patterns.now place → ⊥) }
+{
+    for at in 0..listing.outcomes.len() {
+        let outcome = outcome_at(listing.outcomes.as_slice(), at);
+        if matches_at(alloc, &reached.system, outcome.place, patterns)? {
+            return Ok(Some(at));
+        }
+    }
+    Ok(None)
+}
+
+/// Whether the workers' replies in the state at a place match one of the patterns.
+fn matches_at(
+    alloc: Global,
+    states: &Explorer<'_>,
+    place: usize,
+    patterns: &[Pattern],
+) -> Result<bool, AllocError>
+    requires { place < length states.now.states }
+    ensures { IfOk result (IsMatchAt states.now.states place patterns.now) }
+{
+    match states.at(place) {
+        Some(state) => any_match(alloc, state.told(), patterns),
+        None => Ok(false),
+    }
+}
+
+/// Whether the workers' replies match one of the patterns.
+fn any_match(alloc: Global, told: &[Told], patterns: &[Pattern]) -> Result<bool, AllocError>
+    ensures { IfOk result (λ is. is ≡ any_match patterns.now told.now) }
+{
+    for pattern in patterns {
+        if is_match(alloc, told, pattern)? {
+            return Ok(true);
+        }
+    }
+    Ok(false)
+}
+
+/// Whether the workers' replies match a pattern.
+fn is_match(alloc: Global, told: &[Told], pattern: &Pattern) -> Result<bool, AllocError>
+    ensures { IfOk result (λ is. is ≡ is_match pattern.now told.now) }
+{
+    are_met(
+        alloc,
+        pattern.pieces(),
+        replies_of(told, pattern.worker() as usize),
+    )
+}
+
+/// The replies of a worker. Empty if there is no such worker.
+fn replies_of(told: &[Told], worker: usize) -> &[Reply]
+    ensures { result.now ≡ slice_index_or told.now worker [] }
+{
+    match told.get(worker) {
+        Some(one) => one.replies(),
+        None => &[],
+    }
+}
+
+/// Whether the number of replies is the number of pieces, and each reply matches its piece.
+fn are_met(alloc: Global, pieces: &[Block], replies: &[Reply]) -> Result<bool, AllocError>
+    ensures { IfOk result (λ is. is ≡ are_met pieces.now replies.now) }
+{
+    let mut pieces = pieces;
+    let mut replies = replies;
+    while let Some((piece, more)) = pieces.split_first() {
+        let Some((reply, others)) = replies.split_first() else {
+            return Ok(false);
+        };
+        if !is_met(alloc, piece.as_slice(), reply)? {
+            return Ok(false);
+        }
+        pieces = more;
+        replies = others;
+    }
+    Ok(replies.is_empty())
+}
+
+/// Whether the piece is the reply's text with a space before and after it, or is ` * `, which matches any reply.
+fn is_met(alloc: Global, piece: &[u8], reply: &Reply) -> Result<bool, AllocError>
+    ensures { IfOk result (λ is. is ≡ is_met piece.now reply.now) }
+{
+    if is_word(piece, b" * ") {
+        return Ok(true);
+    }
+    let mut text = Vec::new(alloc);
+    text.push(b' ')?;
+    add_reply(&mut text, reply)?;
+    text.push(b' ')?;
+    Ok(is_word(piece, text.as_slice()))
+}

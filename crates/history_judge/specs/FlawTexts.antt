@@ -1,0 +1,57 @@
+-- Why no order explains a history, as a text. The wording is this project's own choice.
+use Rattle.std.specs.Prelude.{ℕ, ◌+◌, Bool, true, false, List, [], ◌∷◌, ◌++◌, codes}
+use Rattle.std.specs.List.{flat_map}
+use Rattle.arrayvec.specs.ArrayVec.{ArrayVec}
+use Rattle.model_jobs.specs.Texts.{bytes_text, number_field}
+use Rattle.model_words.specs.declared.refusals.Refusal.TheVariants.{Zero}
+use Rattle.text_words.specs.declared.recorded.RecordedReply.{RecordedReply}
+use Rattle.text_words.specs.declared.recorded.RecordedReply.TheVariants.{Refused}
+use Rattle.text_words.specs.RecordedTexts.{recorded_text}
+use Rattle.history_overlaps.specs.declared.flaws.Flaw.{Flaw}
+use Rattle.history_overlaps.specs.declared.flaws.Flaw.TheVariants.{Outside, CellAgain, SerialAgain, NoByte, StrangeRefusal, Overlaps, NoOrder}
+use Rattle.history_overlaps.specs.declared.flaws.OutsideLife.TheVariants.{NotAfterNew, NotBeforeFree}
+use Rattle.history_overlaps.specs.declared.possible.Loads.{Loads}
+use Rattle.history_overlaps.specs.declared.possible.Possible.{Possible}
+use Rattle.history_overlaps.specs.declared.possible.Possible.TheVariants.{Only, Loads as OneOf}
+
+-- the text of an answer that no order explains, which the possible answers follow
+abbrev pub unexplained_text : RecordedReply → List ℕ
+unexplained_text answer = codes "no order explains " ++ recorded_text answer ++ codes "; possible: "
+
+-- the text of a load's answer
+abbrev pub load_text : ArrayVec ℕ → List ℕ
+load_text load = codes "bytes " ++ bytes_text load.items
+
+-- the text of a load's answer after another one
+abbrev pub later_text : ArrayVec ℕ → List ℕ
+later_text load = codes " | " ++ load_text load
+
+-- the texts of loads' answers, with a bar between any two
+abbrev pub least_text : List (ArrayVec ℕ) → List ℕ
+least_text [] = []
+least_text (load ∷ later) = load_text load ++ flat_map later_text later
+
+-- a bar and two dots if there are more possible loads than are stored
+abbrev pub rest_text : Bool → List ℕ
+rest_text true = codes " | .."
+rest_text false = []
+
+-- the text of the possible answers of a load
+abbrev pub loads_text : Loads → List ℕ
+loads_text loads = least_text loads.least.items ++ rest_text loads.are_more
+
+-- the text of what a call could have answered
+abbrev pub possible_text : Possible → List ℕ
+possible_text (Only answer) = recorded_text answer
+possible_text (OneOf loads) = loads_text loads
+
+-- the text of a flaw: why no order explains a history
+abbrev pub flaw_text : Flaw → List ℕ
+flaw_text (Outside NotAfterNew) = codes "not after its new"
+flaw_text (Outside NotBeforeFree) = codes "not before its free"
+flaw_text CellAgain = codes "cell again"
+flaw_text SerialAgain = codes "serial again"
+flaw_text (NoByte answer) = unexplained_text answer ++ recorded_text (Refused Zero)
+flaw_text (StrangeRefusal refusal) = unexplained_text (Refused refusal) ++ codes "object"
+flaw_text (Overlaps serial number) = codes "overlaps object" ++ number_field serial ++ codes ", made at line" ++ number_field (number + 2)
+flaw_text (NoOrder unexplained) = unexplained_text unexplained.answer ++ possible_text unexplained.possible

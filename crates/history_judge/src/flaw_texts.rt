@@ -1,0 +1,108 @@
+//! The text of the reason why no order of effects explains a history.
+ghost use Rattle.std.specs.Prelude.{◌≡◌, ◌++◌, OnOk};
+ghost use Rattle.std.specs.List.{flat_map};
+ghost use Rattle.history_judge.specs.FlawTexts.{flaw_text, later_text, least_text, load_text, loads_text, possible_text, unexplained_text};
+
+use arrayvec::ArrayVec;
+use history_overlaps::{Flaw, Loads, OutsideLife, Possible, Unexplained};
+use history_reading::RecordedReply;
+use model_words::{MAX_BYTES, Refusal};
+use std::alloc::AllocError;
+use text_words::{add_bytes, add_decimal, add_recorded};
+
+/// Appends the reason why no order of effects explains a history.
+pub(crate) fn add_flaw(text: &mut Vec<u8>, flaw: &Flaw) -> Result<(), AllocError>
+    ensures { OnOk result (text.new.items ≡ text.old.items ++ flaw_text flaw.now) }
+{
+    match flaw {
+        Flaw::Outside(OutsideLife::NotAfterNew) => text.extend_from_slice(b"not after its new"),
+        Flaw::Outside(OutsideLife::NotBeforeFree) => text.extend_from_slice(b"not before its free"),
+        Flaw::CellAgain => text.extend_from_slice(b"cell again"),
+        Flaw::SerialAgain => text.extend_from_slice(b"serial again"),
+        Flaw::NoByte(answer) => {
+            add_answer(text, answer)?;
+            add_recorded(text, &RecordedReply::Refused(Refusal::Zero))
+        }
+        Flaw::StrangeRefusal(refusal) => {
+            add_answer(text, &RecordedReply::Refused(*refusal))?;
+            text.extend_from_slice(b"object")
+        }
+        Flaw::Overlaps(serial, number) => {
+            text.extend_from_slice(b"overlaps object ")?;
+            add_decimal(text, u64::from(*serial))?;
+            text.extend_from_slice(b", made at line ")?;
+            add_decimal(text, u64::from(*number) + 2)
+        }
+        Flaw::NoOrder(unexplained) => add_unexplained(text, unexplained),
+    }
+}
+
+/// Appends an answer that no order of effects explains, and the answers that were possible.
+fn add_unexplained(text: &mut Vec<u8>, unexplained: &Unexplained) -> Result<(), AllocError>
+    ensures { OnOk result
+        (text.new.items ≡ text.old.items
+        ++ (unexplained_text unexplained.now.answer ++ possible_text unexplained.now.possible)) }
+{
+    add_answer(text, &unexplained.answer)?;
+    match &unexplained.possible {
+        Possible::Only(answer) => add_recorded(text, answer),
+        Possible::Loads(loads) => add_loads(text, loads),
+    }
+}
+
+/// Appends the text about an answer that no order of effects explains, up to and including `possible: `.
+fn add_answer(text: &mut Vec<u8>, answer: &RecordedReply) -> Result<(), AllocError>
+    ensures { OnOk result (text.new.items ≡ text.old.items ++ unexplained_text answer.now) }
+{
+    text.extend_from_slice(b"no order explains ")?;
+    add_recorded(text, answer)?;
+    text.extend_from_slice(b"; possible: ")
+}
+
+/// Appends the bytes that the load could return, one item for each possibility, and ` | ..` if there are more.
+fn add_loads(text: &mut Vec<u8>, loads: &Loads) -> Result<(), AllocError>
+    ensures { OnOk result (text.new.items ≡ text.old.items ++ loads_text loads.now) }
+{
+    add_least(text, loads.least.as_slice())?;
+    if loads.are_more {
+        return text.extend_from_slice(b" | ..");
+    }
+    Ok(())
+}
+
+/// Appends each item of `loads`, the bytes that a load could return. Items are separated by bars.
+fn add_least(text: &mut Vec<u8>, loads: &[ArrayVec<u8, MAX_BYTES>]) -> Result<(), AllocError>
+    ensures { OnOk result (text.new.items ≡ text.old.items ++ least_text loads.now) }
+{
+    let [first, later @ ..] = loads else {
+        return Ok(());
+    };
+    add_load(text, first)?;
+    add_later(text, later)
+}
+
+/// Appends each item of `later`, the bytes that a load could return, with a bar before each.
+fn add_later(text: &mut Vec<u8>, later: &[ArrayVec<u8, MAX_BYTES>]) -> Result<(), AllocError>
+    ensures { OnOk result (text.new.items ≡ text.old.items ++ flat_map later_text later.now) }
+{
+    for load in later {
+        add_later_load(text, load)?;
+    }
+    Ok(())
+}
+
+/// Appends a bar, and the bytes that a load could return.
+fn add_later_load(text: &mut Vec<u8>, load: &ArrayVec<u8, MAX_BYTES>) -> Result<(), AllocError>
+    ensures { OnOk result (text.new.items ≡ text.old.items ++ later_text load.now) }
+{
+    text.extend_from_slice(b" | ")?;
+    add_load(text, load)
+}
+
+/// Appends the bytes that a load could return.
+fn add_load(text: &mut Vec<u8>, load: &ArrayVec<u8, MAX_BYTES>) -> Result<(), AllocError>
+    ensures { OnOk result (text.new.items ≡ text.old.items ++ load_text load.now) }
+{
+    text.extend_from_slice(b"bytes ")?;
+    add_bytes(text, load.as_slice())
+}

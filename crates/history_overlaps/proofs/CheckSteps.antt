@@ -1,0 +1,272 @@
+-- What is kept from call to call, and what is found at the end.
+use Rattle.std.proofs.Common.{◌≡◌, ℕ, zero, suc, ◌+◌, ◌^◌, ◌<◌, ◌≤◌, ◌⊎◌, inl, inr, Bool, true, false, ◌&&◌, nat_eq, nat_le, List, [], ◌∷◌, ◌++◌, append_assoc, length, length-append, arith, refl, sym, subst, ◌∙◌, ap, Option, Some, None, Result, Ok, Err}
+use Rattle.std.specs.Prelude.{IfOk, IfSome}
+use Rattle.std.specs.List.{list_all}
+use Rattle.std.specs.Io.KnownBytes.{Consumes, IsAtEnd}
+use Rattle.std.proofs.lemmas.Bool.Decides.{leb_tells}
+use Rattle.std.proofs.lemmas.List.{append-nil}
+use Rattle.std.proofs.lemmas.List.Sums.{AllPass-from_list_all}
+use Rattle.model_intervals.specs.Intervals.{Call, IsLinearizable}
+use Rattle.model_intervals.specs.Objects.{IsExplainedByObject}
+use Rattle.model_intervals.specs.OverlappingCalls.{HasEffect, IsAt, IsHistory, cell_at}
+use Rattle.model_intervals.proofs.ByObject.{explained}
+use Rattle.model_intervals.proofs.OneOrder.{linearizable}
+use Rattle.model_history.specs.Recorded.{many_cells}
+use Rattle.model_words.specs.declared.faults.FaultKind.{FaultKind}
+use Rattle.text_fields.proofs.Splits.{some_part}
+use Rattle.text_devices.specs.Ends.{is_full, too_long}
+use Rattle.text_devices.specs.LineInputs.{unread_of}
+use Rattle.history_reading.specs.CallFiles.{call_head_in, call_in}
+use Rattle.history_reading.specs.CallInputs.{HasCome, HasStopped}
+use Rattle.history_reading.specs.CallReadings.{CallFault, CallLine, CallReading, Head, OfCall, OfText, OutOfOrder, calls_from, calls_of, call_line, head_line, is_in_order, next_in, read_on}
+use Rattle.history_reading.specs.declared.faults.CallError.{CallError}
+use Rattle.history_reading.specs.declared.faults.CallError.TheVariants.{Text, Order, Read, Memory}
+use Rattle.history_reading.specs.declared.call_inputs.CallInput.{CallInput}
+use Rattle.history_overlaps.specs.Checks.{HasJudged, HasNotJudged, IsKept, IsTold, IsUnexplainedText}
+use Rattle.history_overlaps.specs.Ends.{AreEnded, IsRuledOut, NoneBefore, Past}
+use Rattle.history_overlaps.specs.Lives.{BeginFrom, CannotBe}
+use Rattle.history_overlaps.specs.Queues.{MayBegin, key_of}
+use Rattle.history_overlaps.specs.Standing.{Stands, lives_of, starts_of, waits_of}
+use Rattle.history_overlaps.specs.Timelines.{FewOpen, Holds, StartsWaiting}
+use Rattle.history_overlaps.specs.declared.pending.Pending.{Pending}
+use Rattle.history_overlaps.specs.declared.stops.Found.{Found}
+use Rattle.history_overlaps.specs.declared.stops.Stop.{Stop}
+use Rattle.history_overlaps.specs.declared.timeline.Timeline.{Timeline}
+use Rattle.history_overlaps.specs.declared.verdicts.CallVerdict.{CallVerdict}
+use Rattle.history_overlaps.specs.declared.verdicts.CallVerdict.TheVariants.{Linearizable, Flawed, Undecided}
+use Rattle.history_number_set.specs.Ranges.{Has}
+use Rattle.history_overlaps.proofs.CallPlaces.{at_below, at_end, at_front, at_one, at_same}
+use Rattle.history_overlaps.proofs.Finish.{is_explained, is_history}
+use Rattle.history_overlaps.proofs.LivesWrong.{all_at}
+use Rattle.history_overlaps.proofs.QueueSteps.{small_place}
+use Rattle.history_overlaps.proofs.AccessOrders.{tells}
+
+-- ---- the order of the lines
+
+both_true : (a b : Bool) → (a && b) ≡ true → (a ≡ true) × (b ≡ true)
+both_true true true is = (refl, refl)
+both_true true false is = cc is
+both_true false b is = cc is
+
+-- a call in order begins no earlier than each of those before it
+pub begins_behind : (calls : List Call) (call : Call) → is_in_order calls call ≡ true → (i : ℕ) (a : Call) → IsAt calls i a → a.begin ≤ call.begin
+begins_behind calls call in_order i a is =
+    let both = both_true (list_all (λ earlier. nat_le earlier.begin call.begin) calls) _ in_order in
+    let pass = all_at (λ (x : Call). nat_le x.begin call.begin ≡ true) calls i a (AllPass-from_list_all (λ earlier. nat_le earlier.begin call.begin) calls both.0) is in
+    elim (leb_tells a.begin call.begin) [
+      | inl low ↦ low.1
+      | inr high ↦ absurd (let not = high.0 in cc (pass, not))
+    ]
+
+-- ---- what is read behind calls begins no earlier than they
+
+-- a line that is read as a call is in order
+call_in_order : (lines : ℕ) (calls : List Call) (line : List ℕ) (call : Call) → next_in lines calls line ≡ Ok (OfCall call) → is_in_order calls call ≡ true
+call_in_order lines calls line call is = elim (tells (is_full lines)) [
+  | inl full ↦ absurd (let no = sym (full_next full) ∙ is in cc no)
+  | inr room ↦ elim (tells (nat_eq lines 0)) [
+    | inl first ↦ absurd (head_no_call (call_head_in line) (sym (first_next room first) ∙ is))
+    | inr later ↦ by_call (call_in line) (sym (later_next room later) ∙ is)
+  ]
+]
+  where
+    full_next : is_full lines ≡ true → next_in lines calls line ≡ Err (OfText too_long)
+    full_next full = rw full refl
+
+    first_next : is_full lines ≡ false → nat_eq lines 0 ≡ true → next_in lines calls line ≡ head_line (call_head_in line)
+    first_next room first = rw (room, first) refl
+
+    later_next : is_full lines ≡ false → nat_eq lines 0 ≡ false → next_in lines calls line ≡ call_line lines calls (call_in line)
+    later_next room later = rw (room, later) refl
+
+    head_no_call : (head : Result (Unit {0}) FaultKind) → head_line head ≡ Ok (OfCall call) → ⊥
+    head_no_call (Ok h) is = cc is
+    head_no_call (Err kind) is = cc is
+
+    by_call : (read : Result Call FaultKind) → call_line lines calls read ≡ Ok (OfCall call) → is_in_order calls call ≡ true
+    by_call (Err kind) is = cc is
+    by_call (Ok one) is = elim (tells (is_in_order calls one)) [
+      | inl in_order ↦
+          let taken : call_line lines calls (Ok one) ≡ Ok (OfCall one) = rw in_order refl in
+          let same : one ≡ call = (let e = sym taken ∙ is in cc e) in
+          subst (λ (c : Call). is_in_order calls c ≡ true) same in_order
+      | inr not ↦ absurd (let taken : call_line lines calls (Ok one) ≡ Err (OutOfOrder (lines + 1)) = rw not refl in let e = sym taken ∙ is in cc e)
+    ]
+
+-- the calls that are read behind some, which begin no earlier
+pub record ReadBehind (lines : ℕ) (calls : List Call) (rest : List (List ℕ)) : Type 0 where
+  pub later : List Call
+  pub are : (calls_from lines calls rest).calls ≡ calls ++ later
+  pub in_order : (i j : ℕ) (a b : Call) → IsAt calls i a → IsAt later j b → a.begin ≤ b.begin
+
+nothing_behind : (lines : ℕ) (calls : List Call) (rest : List (List ℕ)) → (calls_from lines calls rest).calls ≡ calls → ReadBehind lines calls rest
+nothing_behind lines calls rest is = record { later = []; are = is ∙ sym (append-nil calls); in_order = λ i j a b at_i at_j. absurd (nowhere j b at_j) }
+  where
+    nowhere : (j : ℕ) (b : Call) → IsAt [] j b → ⊥
+    nowhere zero b at = cc at
+    nowhere (suc j) b at = cc at
+
+pub read_behind : (lines : ℕ) (calls : List Call) (rest : List (List ℕ)) → ReadBehind lines calls rest
+read_behind lines calls [] = nothing_behind lines calls [] refl
+read_behind lines calls (line ∷ []) = nothing_behind lines calls (line ∷ []) refl
+read_behind lines calls (line ∷ next ∷ more) =
+    by_line (next_in lines calls line) refl (λ behind. read_behind (lines + 1) behind (next ∷ more))
+  where
+    by_line : (read : Result CallLine CallFault) → next_in lines calls line ≡ read → ((behind : List Call) → ReadBehind (lines + 1) behind (next ∷ more))
+        → ReadBehind lines calls (line ∷ next ∷ more)
+    by_line (Err fault) is on = nothing_behind lines calls (line ∷ next ∷ more)
+        (ap (λ (r : Result CallLine CallFault). (read_on r calls (λ behind. calls_from (lines + 1) behind (next ∷ more))).calls) is)
+    by_line (Ok Head) is on = let r = on calls in record {
+      later = r.later;
+      are = ap (λ (r : Result CallLine CallFault). (read_on r calls (λ behind. calls_from (lines + 1) behind (next ∷ more))).calls) is ∙ r.are;
+      in_order = r.in_order;
+    }
+    by_line (Ok (OfCall call)) is on = let r = on (calls ++ call ∷ []) in record {
+      later = call ∷ r.later;
+      are = ap (λ (r : Result CallLine CallFault). (read_on r calls (λ behind. calls_from (lines + 1) behind (next ∷ more))).calls) is ∙ r.are ∙ append_assoc calls (call ∷ []) r.later;
+      in_order = ordered r;
+    }
+      where
+        ordered : (r : ReadBehind (lines + 1) (calls ++ call ∷ []) (next ∷ more)) → (i j : ℕ) (a b : Call) → IsAt calls i a → IsAt (call ∷ r.later) j b → a.begin ≤ b.begin
+        ordered r i zero a b at_i at_j = let same : call ≡ b = cc at_j in
+            subst (λ (c : Call). a.begin ≤ c.begin) same (begins_behind calls call (call_in_order lines calls line call is) i a at_i)
+        ordered r i (suc j) a b at_i at_j = r.in_order i j a b (at_front calls (call ∷ []) i a at_i) at_j
+
+-- ---- verdicts of texts
+
+-- no text that begins so is explained, where no history goes on from its last call on
+pub unexplained_text : (history : CallInput) (left left' : Option (List ℕ)) (calls : List Call) (call : Call) → HasCome history left left' (calls ++ call ∷ []) → CannotBe calls call.begin
+    → (text : List ℕ) × Consumes left left' text × ((more : List ℕ) → IsUnexplainedText (text ++ more))
+unexplained_text history left left' calls call come cannot = (
+  come.come.text,
+  come.come.taken,
+  λ more history_of_all linear.
+      let parts = some_part 10 (unread_of history.lines ++ more) in
+      let reading : calls_of (come.come.text ++ more) ≡ calls_from (length come.lines) (calls ++ call ∷ []) (parts.first ∷ parts.later) =
+      ap (calls_from 0 []) (come.come.reads more ∙ ap (λ (behind : List (List ℕ)). come.lines ++ behind) parts.is) ∙ come.read.reads parts.first parts.later in
+      let behind = read_behind (length come.lines) (calls ++ call ∷ []) (parts.first ∷ parts.later) in
+      let are : (calls_of (come.come.text ++ more)).calls ≡ calls ++ call ∷ behind.later =
+      ap (λ (r : CallReading). r.calls) reading ∙ behind.are ∙ append_assoc calls (call ∷ []) behind.later in
+      let all_history = subst IsHistory are history_of_all in
+      cannot (call ∷ behind.later) (from behind) all_history (explained (calls ++ call ∷ behind.later) all_history (subst IsLinearizable are linear)),
+)
+  where
+    from : {lines : ℕ} {rest : List (List ℕ)} (behind : ReadBehind lines (calls ++ call ∷ []) rest) → BeginFrom call.begin (call ∷ behind.later)
+    from behind zero a is = let same : call ≡ a = cc is in subst (λ (c : Call). call.begin ≤ c.begin) same (omega arith)
+    from behind (suc j) a is = behind.in_order (length calls) j call a (at_end calls call) is
+
+-- ---- what is kept
+
+pub kept_first : (t : Timeline) → Stands [] t → FewOpen (lives_of t) 0 → IsKept t []
+kept_first t stands few = record {
+  stands = stands;
+  few = few;
+  many = omega arith;
+  moment = 0;
+  past = λ i a over is. absurd (nowhere i a is);
+  reached = inl refl;
+  ends = λ i a is. absurd (nowhere i a is);
+}
+  where
+    nowhere : (i : ℕ) (a : Call) → IsAt [] i a → ⊥
+    nowhere zero a at = cc at
+    nowhere (suc i) a at = cc at
+
+module _ (old : Timeline) (calls : List Call) (kept : IsKept old calls) where
+  -- what has ended did so before a call in order begins
+  pub kept_past : (call : Call) → is_in_order calls call ≡ true → Past calls (waits_of old) call.begin
+  kept_past call in_order i a over is =
+      let early = kept.past i a over is in
+      elim kept.reached [
+        | inl zero_now ↦ omega (arith, early, zero_now)
+        | inr by ↦ let reach = by.3 in let first = begins_behind calls call in_order by.0 by.1 by.2 in omega (arith, early, reach, first)
+      ]
+
+  module _ (mid new : Timeline) (call : Call) (are : AreEnded old mid call.begin) (none : NoneBefore (waits_of mid) call.begin) (in_order : is_in_order calls call ≡ true)
+      (takes_time : call.begin ≤ call.end) (ends : call.end < 2 ^ 64) (effect : HasEffect call.entry.command call.entry.reply) (cell : cell_at call < many_cells)
+      (room : length calls < 4294967296) where
+    may_begin : MayBegin calls (waits_of mid) call
+    may_begin = record {
+      takes_time = takes_time;
+      has_effect = effect;
+      has_cell = cell;
+      last = begins_behind calls call in_order;
+      behind = are.past calls (kept_past call in_order);
+      within = λ i a is w. let late = none (key_of a i) w.0 w.1 in let below = at_below calls i a is in omega (arith, late, below, room);
+      few = room;
+    }
+
+    pub kept_on : (Stands calls mid → MayBegin calls (waits_of mid) call → Stands (calls ++ call ∷ []) new)
+        → (Past calls (waits_of mid) call.begin → Past (calls ++ call ∷ []) (waits_of new) call.begin) → FewOpen (lives_of new) (length calls + 1)
+        → IsKept new (calls ++ call ∷ [])
+    kept_on stands past few = record {
+      stands = stands (are.stands calls kept.stands) may_begin;
+      few = subst (λ (n : ℕ). FewOpen (lives_of new) n) (sym (length-append calls (call ∷ []))) few;
+      many = (let long = length-append calls (call ∷ []) in omega (arith, long, room));
+      moment = call.begin;
+      past = past (are.past calls (kept_past call in_order));
+      reached = inr (length calls, call, at_end calls call, omega arith);
+      ends = λ i a is. elim (at_one calls call i a is) [
+        | inl front ↦ kept.ends i a front
+        | inr here ↦ subst (λ (c : Call). (c.begin ≤ c.end) × (c.end < 2 ^ 64)) here.1 (takes_time, ends)
+      ];
+    }
+
+  -- every call has ended
+  pub kept_finished : (new : Timeline) → AreEnded old new (2 ^ 64) → NoneBefore (waits_of new) (2 ^ 64) → IsHistory calls × IsLinearizable calls
+  kept_finished new are none = elim (are.stands calls kept.stands) [
+    | inr doomed ↦ absurd (
+        let due = doomed.due in let late = none (key_of due.call due.place) due.pending due.waiting in
+        let end = (kept.ends due.place due.call due.there).1 in let below = at_below calls due.place due.call due.there in let many = kept.many in omega (arith, late, end, below, many))
+    | inl holds ↦
+        let nothing : (key : ℕ) → waits_of new key ≡ None = (λ key. no_wait holds key (waits_of new key) refl) in
+        let history = is_history calls (waits_of new) (lives_of new) (starts_of new) (Has new.cells) (Has new.serials) (Has new.freed_twice) holds nothing in
+        (history, linearizable calls history (is_explained calls (waits_of new) (lives_of new) (starts_of new) (Has new.cells) (Has new.serials) (Has new.freed_twice) holds nothing))
+  ]
+    where
+      no_wait : Holds calls (waits_of new) (lives_of new) (starts_of new) (Has new.cells) (Has new.serials) (Has new.freed_twice) → (key : ℕ) (w : Option Pending)
+          → waits_of new key ≡ w → waits_of new key ≡ None
+      no_wait holds key None is = is
+      no_wait holds key (Some p) is = absurd (
+          let at = holds.queue.keyed key p is in let late = none key p is in let k = at.is_key in
+          let end = (kept.ends at.place at.call at.there).1 in let small = small_place calls (waits_of new) holds.queue at.place at.call at.there in omega (arith, late, k, end, small))
+
+  pub kept_flawed : IsRuledOut old (2 ^ 64) → IsHistory calls → IsLinearizable calls → ⊥
+  kept_flawed out history linear =
+      out calls kept.stands (λ i a is. let e = kept.ends i a is in let b = e.0 in let c = e.1 in omega (arith, b, c))
+      [] (λ i a is. absurd (nowhere i a is)) (subst IsHistory (sym (append-nil calls)) history)
+      (subst IsExplainedByObject (sym (append-nil calls)) (explained calls history linear))
+    where
+      nowhere : (i : ℕ) (a : Call) → IsAt [] i a → ⊥
+      nowhere zero a at = cc at
+      nowhere (suc i) a at = cc at
+
+-- a call that has begun has not ended
+pub past_begun : (calls : List Call) (call : Call) (waits waits' : ℕ → Option Pending) (moment : ℕ) (pending : Pending) → length calls < 4294967296
+    → StartsWaiting calls call waits waits' pending → Past calls waits moment → Past (calls ++ call ∷ []) waits' moment
+past_begun calls call waits waits' moment pending room starting past i a over is = elim (at_one calls call i over.0 over.1) [
+  | inl old ↦
+      let same = at_same (calls ++ call ∷ []) i over.0 a over.1 is in
+      let before = sym (starting.others (key_of over.0 i) (λ e. let below = at_below calls i over.0 old in omega (arith, e, below, room))) ∙ over.2 in
+      subst (λ (b : Call). b.end < moment) same (past i over.0 (over.0, old, before) old)
+  | inr new ↦ absurd (
+      let at = subst (λ (b : Call). waits' (key_of b (length calls)) ≡ Some pending) new.1 starting.now in
+      let at' = subst (λ (q : ℕ). waits' (key_of over.0 q) ≡ Some pending) (sym new.0) at in let none = over.2 in cc (at', none))
+]
+
+-- ---- verdicts
+
+-- a verdict is told of what was found
+pub judged_by : (left left' : Option (List ℕ)) (found : Result (Option Found) Stop) (P : Type 0) → IfOk found (λ f. IfSome f (λ _. P))
+    → (P → (text : List ℕ) × Consumes left left' text × (((more : List ℕ) → IsUnexplainedText (text ++ more)) ⊎ (IsUnexplainedText text × IsAtEnd left')))
+    → (verdict : CallVerdict) → IsTold found verdict → HasJudged left left' verdict
+judged_by left left' found P h judge (Linearizable entries) told = absurd told
+judged_by left left' found P h judge (Flawed line flaw) told = judge (subst (λ (r : Result (Option Found) Stop). IfOk r (λ f. IfSome f (λ _. P))) told.1 h)
+judged_by left left' found P h judge (Undecided line fault) told = tt
+
+-- the fault of a text
+pub not_judged : (left left' : Option (List ℕ)) (calls : List Call) (error : CallError) → HasStopped left left' calls error → HasNotJudged left left' error
+not_judged left left' calls (Text fault) stopped = (calls, stopped)
+not_judged left left' calls (Order line) stopped = (calls, stopped)
+not_judged left left' calls Read stopped = tt
+not_judged left left' calls Memory stopped = tt

@@ -1,8 +1,0 @@
-use Rattle.std.proofs.Common.{sym}
-use Rattle.std.specs.Ordering.{nat_cmp}
-use Rattle.std.specs.BTreeMap.{get}
-use Rattle.mesh_check.proofs.Kept.{length_of_all}
-use Rattle.mesh_check.proofs.sparse.SparseBytes.len.Goals as goal
-
-pub returns : goal.returns
-returns c = sym (length_of_all (get nat_cmp c.self.inside.chunks) c.self.inside.len c.args.self.now c.self.view_is)

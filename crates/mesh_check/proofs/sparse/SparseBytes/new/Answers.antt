@@ -1,5 +1,0 @@
-use Rattle.mesh_check.proofs.Kept.{bytes_in-empty}
-use Rattle.mesh_check.proofs.sparse.SparseBytes.new.Goals as goal
-
-pub returns : goal.returns
-returns c = bytes_in-empty c.new.result c.args.len c.new.ensures.empty

@@ -1,5 +1,0 @@
-use Rattle.mesh_check.proofs.Laws.{legal_text, text_legal}
-use Rattle.mesh_check.proofs.verdict_laws.legal_is_legal.Goals as goal
-
-pub returns : goal.returns
-returns c = λ text n. (legal_text text n, text_legal text n)

@@ -1,6 +1,0 @@
-use Rattle.std.proofs.Common.{◌≡◌, ◌++◌}
-use Rattle.mesh_draw.specs.Frames.{below, listed, member_row}
-use Rattle.mesh_draw.proofs.shown.add_members.Given as goal
-
-abbrev pub invariant-loop-place : goal.invariant-loop-place
-invariant-loop-place l = l.rows.items ≡ l.initial.rows.items ++ below l.place (λ place. listed (member_row l.heap l.group l.class place))

@@ -1,6 +1,0 @@
-use Rattle.std.proofs.Common.{◌∙◌}
-use Rattle.mesh_fields.proofs.Sames.{pointwise_same}
-use Rattle.mesh_fields.proofs.lines.is_word.Goals as goal
-
-pub returns : goal.returns
-returns c = c.eq.ensures ∙ pointwise_same c.args.word.now c.args.wanted.now

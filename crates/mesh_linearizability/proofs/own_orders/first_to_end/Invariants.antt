@@ -1,6 +1,0 @@
-use Rattle.std.proofs.Common.{take}
-use Rattle.mesh_linearizability.specs.Followed.{IsFirstOf}
-use Rattle.mesh_linearizability.proofs.own_orders.first_to_end.Given as goal
-
-abbrev pub invariant-loop-number : goal.invariant-loop-number
-invariant-loop-number l = IsFirstOf l.calls (take l.number-index l.numbers) l.first

@@ -1,5 +1,0 @@
-use Rattle.mesh_svg.proofs.Adding.{adds_both}
-use Rattle.mesh_picture.proofs.style.add_rules.Goals as goal
-
-pub returns : goal.returns
-returns c = (_, adds_both c.args.text.now c.add_style.new.self c.add.new.self _ _ c.add_style.ensures c.add.ensures)

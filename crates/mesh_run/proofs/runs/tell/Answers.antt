@@ -1,5 +1,0 @@
-use Rattle.mesh_run.proofs.Messages.{told_by_write}
-use Rattle.mesh_run.proofs.runs.tell.Goals as goal
-
-pub returns : goal.returns
-returns g c = told_by_write c.write_all.result _ _ _ _ _ c.write_all.ensures.ok c.write_all.ensures.err c.write_all.ensures.fails

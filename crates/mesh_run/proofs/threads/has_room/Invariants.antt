@@ -1,6 +1,0 @@
-use Rattle.std.proofs.Common.{◌≡◌, ◌+◌, take}
-use Rattle.mesh_run.specs.Threads.{command_count}
-use Rattle.mesh_run.proofs.threads.has_room.Given as goal
-
-abbrev pub invariant-loop-worker : goal.invariant-loop-worker
-invariant-loop-worker l = l.room + command_count (take l.worker l.scripts) ≡ l.history

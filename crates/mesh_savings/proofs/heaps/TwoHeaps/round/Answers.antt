@@ -1,9 +1,0 @@
-use Rattle.std.proofs.lemmas.Result.{on_ok_weaker}
-use Rattle.mesh_savings.proofs.Pairs.{round_is}
-use Rattle.mesh_savings.specs.HeapChanges.{heaps_of}
-use Rattle.mesh_savings.proofs.heaps.TwoHeaps.round.Goals as goal
-
-pub returns-clause-value : goal.returns-clause-value
-returns-clause-value c =
-    on_ok_weaker c.mesh_classes.result
-    (λ e. round_is c.args.probe (heaps_of c.args.self.now) _ _ _ c.sweep_empty.ensures.table c.sweep_empty-2.ensures.table e) c.mesh_classes.ensures.value

@@ -1,8 +1,0 @@
-use Rattle.mesh_savings.proofs.AlikeHeaps.{classes_alike, heaps_alike}
-use Rattle.mesh_savings.proofs.laws.heaps_are_alike.Goals as goal
-
-pub returns-clause-objects : goal.returns-clause-objects
-returns-clause-objects c = heaps_alike
-
-pub returns-clause-classes : goal.returns-clause-classes
-returns-clause-classes c = classes_alike

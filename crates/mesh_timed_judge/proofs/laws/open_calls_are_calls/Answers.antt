@@ -1,5 +1,0 @@
-use Rattle.mesh_timed_judge.proofs.End.{open_is_call}
-use Rattle.mesh_timed_judge.proofs.laws.open_calls_are_calls.Goals as goal
-
-pub returns : goal.returns
-returns g c = open_is_call g.O.Calls.effect

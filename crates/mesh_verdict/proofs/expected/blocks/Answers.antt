@@ -1,6 +1,0 @@
-use Rattle.std.proofs.Common.{[], refl}
-use Rattle.mesh_verdict.proofs.Blocks.{finished}
-use Rattle.mesh_verdict.proofs.expected.blocks.Goals as goal
-
-pub returns : goal.returns
-returns c = finished _ _ _ _ _ _ _ _ (c.in_default.ensures.none refl) c.loop-line.invariant (c.in_ok-take-2.ensures []) c.in_ok-close.ensures.done

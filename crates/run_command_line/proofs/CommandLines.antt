@@ -1,0 +1,233 @@
+-- What `clap`'s contracts say of the program's command line.
+use Rattle.std.proofs.Common.{◌≡◌, true, false, List, [], ◌∷◌, ◌++◌, Option, None, Some, Result, Ok, Err, IfErr, option_map, ap, refl, subst, sym, ◌∙◌, inl, inr}
+use Rattle.std.specs.Box.{box_value}
+use Rattle.std.specs.List.{slice_split}
+use Rattle.std.specs.Option.{unwrap_or}
+use Rattle.std.specs.Prelude.{codes, nat_eq, option_and_then}
+use Rattle.clap.specs.Words.{App, FailsBy, HasKind, IsAmong, Row, Text, fault_of, first_of, first_value, is_simple, is_simple_and_free, kind_of, found_of, rows_of, subcommand_name_of, subcommand_of, subcommand_rows_of, takes}
+use Rattle.clap.specs.declared.error.Error.{Error}
+use Rattle.clap.specs.declared.parser.matches.ArgMatches.{ArgMatches}
+use Rattle.clap.specs.declared.parser.matches.ArgMatches.TheViews.{out-ArgMatches, out-SubCommand}
+use Rattle.clap.specs.declared.parser.matches.Found.{Found}
+use Rattle.clap.proofs.OnLiterals.{clap_on_literals}
+use Rattle.clap.proofs.WalkLemmas.{first_value-rows}
+use Rattle.run_command_line.specs.CommandLine.{Asked, IsSaidOf, asked, asked_by, asked_in, asked_of, is_taken, kinds_of, check_of, draw_of, explore_of, live_of, meshrun_app, never_asked, never_found, never_in, replay_history_of, replay_of, savings_of, tells_all, tells_answer, tells_outcome, tells_verdict, threads_history_of, threads_of}
+
+-- the command line is one whose matches and faults `clap` tells
+pub is_told : is_simple_and_free meshrun_app ≡ true
+unfolding clap_on_literals
+is_told = refl
+
+pub has_matches : is_simple meshrun_app ≡ true
+unfolding clap_on_literals
+has_matches = refl
+
+-- what `clap` says of words
+said_of : (words : List Text) (app : App) (error : Error) → app ≡ meshrun_app → HasKind (fault_of app words) error → IsSaidOf words (kind_of error)
+unfolding kinds_of
+said_of words app error is (inl memory) = inl memory
+said_of words app error is (inr kind) = inr (inl (subst (λ a. IsAmong (kind_of error) (fault_of a words)) is kind))
+
+pub said_by : {T : Type 0} (words : List Text) (app : App) (result : Result T Error) → app ≡ meshrun_app → FailsBy (fault_of app words) result
+    → IfErr result (λ error. IsSaidOf words (kind_of error))
+said_by words app (Ok matches) is told = tt
+said_by words app (Err error) is told = said_of words app error is told
+
+-- words that the program takes fail for want of memory alone
+pub taken_of : (words : List Text) (app : App) → app ≡ meshrun_app → is_taken words ≡ true → takes app words ≡ true
+unfolding is_taken
+taken_of words app is taken = ap (λ a. takes a words) is ∙ taken
+
+-- what `clap`'s matches ask for
+pub asked_of_matches : (words : List Text) (app : App) (found : Option (Text × List Row)) → app ≡ meshrun_app → found ≡ subcommand_of app words
+    → asked_in found ≡ asked words
+unfolding asked
+asked_of_matches words app found is rows = ap asked_in (rows ∙ ap (λ a. subcommand_of a words) is)
+
+-- and which patterns they have
+pub never_of_matches : (words : List Text) (app : App) (found : Option (Text × List Row)) → app ≡ meshrun_app → found ≡ subcommand_of app words
+    → never_found found ≡ never_asked words
+unfolding never_asked
+never_of_matches words app found is rows = ap never_found (rows ∙ ap (λ a. subcommand_of a words) is)
+
+first_parts : {X A B : Type 0} (f : X → A × B) (o : Option X) → option_map (λ x. (f x).0) o ≡ option_map (λ p. p.0) (option_map f o)
+first_parts f None = refl
+first_parts f (Some x) = refl
+
+-- the name of the subcommand that was met, beside its rows
+name_of_rows : (matches : ArgMatches) (name : Text) → Some name ≡ subcommand_name_of matches → Some name ≡ option_map (λ p. p.0) (subcommand_rows_of matches)
+name_of_rows matches name is = is ∙ first_parts (λ b. ((out-SubCommand (box_value b)).name.now, rows_of (found_of (out-SubCommand (box_value b)).matches))) (out-ArgMatches matches).subcommand
+
+-- its patterns, if its matches have at most ten
+pub never_of_rows : (found : Option (Text × List Row)) (rows : List Row) (never : List Text) → Some rows ≡ option_map (λ p. p.1) found → Some never ≡ never_in rows
+    → never ≡ never_found found
+never_of_rows None rows never has few = absurd (cc has)
+never_of_rows (Some found) rows never has few =
+    let rows_are : rows ≡ found.1 = cc has in
+    ap (λ (texts : Option (List Text)). unwrap_or texts []) (few ∙ ap never_in rows_are)
+
+-- what a subcommand that was met asks for, by its name and its rows
+met : (found : Option (Text × List Row)) (name : Text) (rows : List Row) → Some name ≡ option_map (λ p. p.0) found → Some rows ≡ option_map (λ p. p.1) found
+    → asked_in found ≡ asked_by name rows
+met None name rows named has = absurd (cc named)
+met (Some found) name rows named has =
+    let name_is : name ≡ found.0 = cc named in
+    let rows_are : rows ≡ found.1 = cc has in
+    rw (name_is, rows_are) refl
+
+-- and by its name and its matches
+pub asked_by_matches : (matches : ArgMatches) (name : Text) (found : Found) → Some name ≡ subcommand_name_of matches
+    → Some (rows_of found) ≡ option_map (λ p. p.1) (subcommand_rows_of matches) → asked_by name (rows_of found) ≡ asked_in (subcommand_rows_of matches)
+asked_by_matches matches name found named has = sym (met (subcommand_rows_of matches) name (rows_of found) (name_of_rows matches name named) has)
+
+-- what it asks for with the file that its matches have
+pub asked_of_file : (never : List Text) (name : Text) (found : Found) (file : Option Text) → file ≡ first_value found (codes "FILE")
+    → option_and_then (asked_of never name (rows_of found)) file ≡ option_and_then (asked_of never name (rows_of found)) (first_of (codes "FILE") (rows_of found))
+asked_of_file never name found file is = ap (option_and_then (asked_of never name (rows_of found))) (is ∙ first_value-rows found (codes "FILE"))
+
+-- where the command's name is a known one, and this is what that one asks for
+pub asked_of_known : (never : List Text) (name known : Text) (found : Found) (file : Text) (asked : Option Asked) → name ≡ known → Some file ≡ first_value found (codes "FILE")
+    → asked ≡ asked_of never known (rows_of found) file → asked ≡ option_and_then (asked_of never name (rows_of found)) (first_of (codes "FILE") (rows_of found))
+asked_of_known never name known found file asked is has asks =
+    asks ∙ sym (ap (λ text. asked_of never text (rows_of found) file) is) ∙ asked_of_file never name found (Some file) has
+
+-- the words of a command line: behind the program's name those of a text, with a space between two
+abbrev spoken : Text → List Text
+spoken text = codes "meshrun" ∷ slice_split (λ b. nat_eq b 32) text
+
+-- a command line of the program that asks for this
+abbrev Asks : Text → Asked → Type 0
+Asks text what = (is_taken (spoken text) ≡ true) × (asked (spoken text) ≡ Some what)
+
+-- the answers of a replay are printed, or, with `--history` before the file or behind it, its history
+replays_are_asked :
+    Asks (codes "replay hello.job") (replay_of (codes "hello.job"))
+    × Asks (codes "replay --history hello.job") (replay_history_of (codes "hello.job"))
+unfolding clap_on_literals asked is_taken
+replays_are_asked = ((refl, refl), (refl, refl))
+
+-- without `--meshers` one thread meshes; options stand in any order, and take the most that they may
+threads_are_asked :
+    Asks (codes "threads a.job --probe 2 --rounds 3 --workers 4 --seed 5")
+    (threads_of (codes "a.job") (record { probe = 2; rounds = 3; workers = 4; seed = 5; meshers = 1 }))
+    × Asks (codes "threads --meshers=10 --seed=18446744073709551615 --workers=16 a.job --rounds=1000 --history --probe=64")
+    (threads_history_of (codes "a.job") (record { probe = 64; rounds = 1000; workers = 16; seed = 18446744073709551615; meshers = 10 }))
+unfolding clap_on_literals asked is_taken
+threads_are_asked = ((refl, refl), (refl, refl))
+
+-- a picture is of the whole plan, in as many columns as fit, or of a part of it from a line to another, in the most
+-- columns
+pictures_are_asked :
+    Asks (codes "draw a.job") (draw_of (codes "a.job") (record { from = 1; to = 1048576; columns = 0 }))
+    × Asks (codes "draw --to=1048576 a.job --columns=64 --from 12") (draw_of (codes "a.job") (record { from = 12; to = 1048576; columns = 64 }))
+unfolding clap_on_literals asked is_taken
+pictures_are_asked = ((refl, refl), (refl, refl))
+
+-- a session is of the largest sizes; smaller ones may be asked for, and a journal with no room
+sessions_are_asked :
+    Asks (codes "live") (live_of (record { pages = 4096; history = 65536; workers = 64 }))
+    × Asks (codes "live --workers=1 --history 0 --pages=1") (live_of (record { pages = 1; history = 0; workers = 1 }))
+unfolding clap_on_literals asked is_taken
+sessions_are_asked = ((refl, refl), (refl, refl))
+
+-- a history is judged with at most 100,000 configurations of an object, or with as many as are given, and an order may
+-- be asked for; `-` is a file's name to the command line
+judgements_are_asked :
+    Asks (codes "check a.history") (check_of (codes "a.history") (record { configurations = 100000; is_ordered = false }))
+    × Asks (codes "check --configurations=4294967295 -") (check_of (codes "-") (record { configurations = 4294967295; is_ordered = false }))
+    × Asks (codes "check --order a.history --configurations 1") (check_of (codes "a.history") (record { configurations = 1; is_ordered = true }))
+unfolding clap_on_literals asked is_taken
+judgements_are_asked = ((refl, refl), (refl, refl), (refl, refl))
+
+-- one mesh is never cancelled, and explored for all outcomes, of at most 100,000 states; two meshes come in their
+-- order, between other options, and their numbers may have a plus and leading zeros
+explorations_are_asked :
+    Asks (codes "explore a.job --mesh 1:0")
+    (explore_of (codes "a.job") (record { meshes = record { source = 1; destination = 0 } ∷ []; cancel = None; states = 100000; told = tells_all; is_watched = false }))
+    × Asks (codes "explore --mesh=+65535:00 --states 1 --cancel=1000 a.job --mesh 3:2 --witness=0")
+    (explore_of (codes "a.job") (record {
+      meshes = record { source = 65535; destination = 0 } ∷ record { source = 3; destination = 2 } ∷ [];
+      cancel = Some 1000;
+      states = 1;
+      told = tells_outcome 0;
+      is_watched = false;
+    }))
+unfolding clap_on_literals asked is_taken
+explorations_are_asked = ((refl, refl), (refl, refl))
+
+-- an answer in a phase, or a verdict, in place of all outcomes
+tellings_are_asked :
+    Asks (codes "explore a.job --mesh 1:0 --show 12:done:mesh --progress")
+    (explore_of (codes "a.job") (record {
+      meshes = record { source = 1; destination = 0 } ∷ [];
+      cancel = None;
+      states = 100000;
+      told = tells_answer (record { line = 12; answer = codes "done"; phase = codes "mesh" });
+      is_watched = true;
+    }))
+    × Asks (codes "explore a.job --mesh 1:0 --never=one --expect a.out --never two")
+    (explore_of (codes "a.job") (record {
+      meshes = record { source = 1; destination = 0 } ∷ [];
+      cancel = None;
+      states = 100000;
+      told = tells_verdict (record { expect = Some (codes "a.out"); never = codes "one" ∷ codes "two" ∷ [] });
+      is_watched = false;
+    }))
+unfolding clap_on_literals asked is_taken
+tellings_are_asked = ((refl, refl), (refl, refl))
+
+-- the patterns come in their order, and a replay has none
+patterns_are_asked :
+    (never_asked (spoken (codes "explore a.job --mesh 1:0 --never=one --expect a.out --never two")) ≡ codes "one" ∷ codes "two" ∷ [])
+    × (never_asked (spoken (codes "replay hello.job")) ≡ [])
+unfolding clap_on_literals never_asked
+patterns_are_asked = (refl, refl)
+
+-- two things are not told at once, and an answer needs a line, a text and a phase
+two_tellings_ask_nothing :
+    (asked (spoken (codes "explore a.job --mesh 1:0 --witness 3 --never one")) ≡ None)
+    × (asked (spoken (codes "explore a.job --mesh 1:0 --show 12:done")) ≡ None)
+    × (asked (spoken (codes "explore a.job --mesh 1:0 --show 0:done:over")) ≡ None)
+unfolding clap_on_literals asked
+two_tellings_ask_nothing = (refl, refl, refl)
+
+-- a history is followed with a round behind every 10,000 frees, 64 rounds of tries, words of the seed 1, and figures of
+-- all calls; or with what is given
+savings_are_asked :
+    Asks (codes "savings a.history")
+    (savings_of (codes "a.history") (record { every = 10000; probe = 64; seed = Some 1; from = 1; to = 4294967295; is_plot = false }))
+    × Asks (codes "savings --svg --to=9 - --from 9 --seed=18446744073709551615 --probe=0 --every 1")
+    (savings_of (codes "-") (record { every = 1; probe = 0; seed = Some 18446744073709551615; from = 9; to = 9; is_plot = true }))
+    × Asks (codes "savings a.history --first-fit")
+    (savings_of (codes "a.history") (record { every = 10000; probe = 64; seed = None; from = 1; to = 4294967295; is_plot = false }))
+unfolding clap_on_literals asked is_taken
+savings_are_asked = ((refl, refl), (refl, refl), (refl, refl))
+
+-- a seed beside `--first-fit`, and figures that end before they begin, ask for nothing
+apart_asks_nothing :
+    (asked (spoken (codes "savings a.history --seed=1 --first-fit")) ≡ None) × (asked (spoken (codes "savings a.history --from=2 --to=1")) ≡ None)
+unfolding clap_on_literals asked
+apart_asks_nothing = (refl, refl)
+
+-- the flag has no value, 17 threads make no search, there is no line 0, a session has no file, a picture isn't of a
+-- history, a mesh has to be given, no round comes behind 0 frees, and an object has a configuration or more
+are_refused :
+    (is_taken (spoken (codes "replay hello.job --history=no")) ≡ false)
+    × (is_taken (spoken (codes "threads a.job --probe=2 --rounds=3 --workers=17 --seed=5")) ≡ false)
+    × (is_taken (spoken (codes "draw a.job --from=0")) ≡ false)
+    × (is_taken (spoken (codes "live a.job")) ≡ false)
+    × (is_taken (spoken (codes "draw a.job --history")) ≡ false)
+    × (is_taken (spoken (codes "explore a.job")) ≡ false)
+    × (is_taken (spoken (codes "savings a.history --every=0")) ≡ false)
+    × (is_taken (spoken (codes "check a.history --configurations=0")) ≡ false)
+unfolding clap_on_literals is_taken
+are_refused = (refl, refl, refl, refl, refl, refl, refl, refl)
+
+-- no group is above 65,535, and there are just two, which are numbers: other words ask for nothing
+abbrev AsksNothing : Text → Type 0
+AsksNothing pair = asked (spoken (codes "explore a.job --mesh " ++ pair)) ≡ None
+
+misspelt_asks_nothing : AsksNothing (codes "++1:0") × AsksNothing (codes "1:") × AsksNothing (codes "65536:0") × AsksNothing (codes "1")
+    × AsksNothing (codes "1:0:2")
+unfolding clap_on_literals asked
+misspelt_asks_nothing = (refl, refl, refl, refl, refl)

@@ -1,0 +1,519 @@
+-- The command line as `clap` reads it, and how the program stops if the command line asks for no run.
+use Rattle.std.specs.Prelude.{◌≡◌, ◌⊎◌, ◌&&◌, ◌||◌, ◌==◌, ℕ, Bool, true, false, not, List, [], ◌∷◌, Option, Some, None, codes, if◌then◌else◌, is_none, is_some, length, nat_eq, nat_le, option_and_then, option_map}
+use Rattle.std.specs.Cow.{cow_str_bytes}
+use Rattle.std.specs.List.{after_first, before_first}
+use Rattle.std.specs.Option.{unwrap_or}
+use Rattle.std.specs.Str.{bytes_eq}
+use Rattle.std.specs.Str.Parse.{digits_value, without_leading_plus}
+use Rattle.clap.specs.ValueTests.{is_unsigned_in}
+use Rattle.clap.specs.Words.{App, IsAmong, Kinds, Row, Rule, Text, all_of, fault_of, first_of, new_app, new_rule, one_of, subcommand_of, takes, with_rule, with_subcommand}
+use Rattle.clap.specs.declared.builder.action.ArgAction.TheVariants.{Append, SetTrue}
+use Rattle.clap.specs.declared.builder.value_parser.ValueParser.TheVariants.{Unsigned}
+use Rattle.clap.specs.declared.error.kind.ErrorKind.{ErrorKind}
+use Rattle.clap.specs.declared.error.kind.ErrorKind.TheVariants.{DisplayHelp, DisplayVersion, OutOfMemory, ValueValidation}
+use Rattle.model_jobs.specs.Texts.{ended}
+use Rattle.run_command_line.specs.Meshes.{pairs_of}
+use Rattle.run_command_line.specs.Patterns.{texts_of}
+use Rattle.run_command_line.specs.declared.check_args.CheckArgs.{CheckArgs}
+use Rattle.run_command_line.specs.declared.command_line.Args.{Args}
+use Rattle.run_command_line.specs.declared.command_line.Args.TheVariants.{Check, Draw, Explore, Live, Replay, ReplayHistory, Savings, Threads, ThreadsHistory}
+use Rattle.run_command_line.specs.declared.command_line.Parsed.{Parsed}
+use Rattle.run_command_line.specs.declared.stop.Stop.{Stop}
+use Rattle.run_command_line.specs.declared.draw_args.DrawArgs.{DrawArgs}
+use Rattle.run_command_line.specs.declared.explore_args.ExploreArgs.{ExploreArgs}
+use Rattle.run_command_line.specs.declared.explore_args.ShownArgs.{ShownArgs}
+use Rattle.run_command_line.specs.declared.explore_args.Told.{Told}
+use Rattle.run_command_line.specs.declared.explore_args.Told.TheVariants.{All, Answer, Outcome, Verdict}
+use Rattle.explore_interleavings.specs.declared.pair.MeshPair.{MeshPair}
+use Rattle.run_command_line.specs.declared.live_args.LiveArgs.{LiveArgs}
+use Rattle.run_command_line.specs.declared.savings_args.SavingsArgs.{SavingsArgs}
+use Rattle.run_command_line.specs.declared.threads_args.ThreadsArgs.{ThreadsArgs}
+
+-- ---- what the program takes
+
+-- the required argument for the file
+abbrev pub file_rule : Rule
+file_rule = record (new_rule (codes "FILE")) { required = true }
+
+-- an option of this name with a number from `least` to `most`. Help shows one value for the option
+abbrev pub number_rule : Text → ℕ → ℕ → Rule
+number_rule name least most = record (new_rule name) { long = Some name; parser = Some (Unsigned least most); value_names = 1 }
+
+-- a required option of this name with a number from `least` to `most`
+abbrev pub required_number : Text → ℕ → ℕ → Rule
+required_number name least most = record (number_rule name least most) { required = true }
+
+-- an option of this name with a number from `least` to `most`. If the option isn't given, the number is the default
+abbrev pub number_or : Text → ℕ → ℕ → Text → Rule
+number_or name least most default = record (number_rule name least most) { defaults = default ∷ [] }
+
+-- a flag of this name
+abbrev pub flag_rule : Text → Rule
+flag_rule name = record (new_rule name) { long = Some name; action = Some SetTrue }
+
+-- an option of this name with a text. Help shows one value for the option
+abbrev pub text_rule : Text → Rule
+text_rule name = record (new_rule name) { long = Some name; value_names = 1 }
+
+-- an option of this name that may be given several times, each time with a text
+abbrev pub texts_rule : Text → Rule
+texts_rule name = record (text_rule name) { action = Some Append }
+
+-- the option `--mesh`: it is required, and may be given several times, each time with a text. Help shows one value for
+-- the option
+abbrev pub mesh_rule : Rule
+mesh_rule = record (new_rule (codes "mesh")) { long = Some (codes "mesh"); action = Some Append; required = true; value_names = 1 }
+
+-- `replay FILE [--history]`
+abbrev pub replay_app : App
+replay_app = with_rule (with_rule (new_app (codes "replay")) file_rule) (flag_rule (codes "history"))
+
+-- `threads FILE --probe T --rounds R --workers N --seed S [--meshers M] [--history]`
+abbrev pub threads_app : App
+threads_app = with_rule (with_rule (with_rule (with_rule (with_rule (with_rule (with_rule (new_app (codes "threads")) file_rule)
+    (required_number (codes "probe") 0 64)) (required_number (codes "rounds") 0 1000)) (required_number (codes "workers") 1 16))
+    (required_number (codes "seed") 0 18446744073709551615)) (number_or (codes "meshers") 1 10 (codes "1")))
+    (flag_rule (codes "history"))
+
+-- `draw FILE [--from N] [--to N] [--columns N]`
+abbrev pub draw_app : App
+draw_app = with_rule (with_rule (with_rule (with_rule (new_app (codes "draw")) file_rule)
+    (number_or (codes "from") 1 1048576 (codes "1"))) (number_or (codes "to") 1 1048576 (codes "1048576")))
+    (number_or (codes "columns") 0 64 (codes "0"))
+
+-- `live [--pages P] [--history H] [--workers N]`
+abbrev pub live_app : App
+live_app = with_rule (with_rule (with_rule (new_app (codes "live")) (number_or (codes "pages") 1 4096 (codes "4096")))
+    (number_or (codes "history") 0 65536 (codes "65536"))) (number_or (codes "workers") 1 64 (codes "64"))
+
+-- `explore FILE --mesh SRC:DST [--mesh ..] [--cancel AFTER] [--states N] [--witness K | --show LINE:ANSWER:PHASE |
+-- [--expect FILE] [--never PATTERN ..]] [--progress]`
+abbrev pub explore_app : App
+explore_app = with_rule (with_rule (with_rule (with_rule (with_rule (with_rule (with_rule (with_rule (with_rule (new_app (codes "explore")) file_rule) mesh_rule)
+    (number_rule (codes "cancel") 0 1000)) (number_or (codes "states") 1 10000000 (codes "100000"))) (number_rule (codes "witness") 0 4294967295))
+    (text_rule (codes "show"))) (text_rule (codes "expect"))) (texts_rule (codes "never"))) (flag_rule (codes "progress"))
+
+-- `check FILE [--configurations N] [--order]`
+abbrev pub check_app : App
+check_app = with_rule (with_rule (with_rule (new_app (codes "check")) file_rule) (number_or (codes "configurations") 1 4294967295 (codes "100000")))
+    (flag_rule (codes "order"))
+
+-- `savings FILE [--every F] [--probe T] [--seed S] [--first-fit] [--from CALL] [--to CALL] [--svg]`
+abbrev pub savings_app : App
+savings_app = with_rule (with_rule (with_rule (with_rule (with_rule (with_rule (with_rule (with_rule (new_app (codes "savings")) file_rule)
+    (number_or (codes "every") 1 4294967295 (codes "10000"))) (number_or (codes "probe") 0 64 (codes "64")))
+    (number_rule (codes "seed") 0 18446744073709551615)) (flag_rule (codes "first-fit"))) (number_or (codes "from") 1 4294967295 (codes "1")))
+    (number_or (codes "to") 1 4294967295 (codes "4294967295"))) (flag_rule (codes "svg"))
+
+-- the program without its subcommands. It has a version, requires a subcommand, and shows its help if there are no
+-- words. The version's text isn't part of the model of `clap`
+abbrev pub bare_app : App
+bare_app = let app = new_app (codes "meshrun") in
+    record app { top = record app.top { has_version = true; subcommand_required = true; arg_required_else_help = true } }
+
+-- `meshrun replay FILE ..`, `meshrun threads FILE ..`, `meshrun draw FILE ..`, `meshrun live ..`, `meshrun explore FILE
+-- ..`, `meshrun check FILE ..` and `meshrun savings FILE ..`
+abbrev pub meshrun_app : App
+meshrun_app =
+    with_subcommand (with_subcommand (with_subcommand (with_subcommand (with_subcommand (with_subcommand (with_subcommand bare_app replay_app.top)
+    threads_app.top) draw_app.top) live_app.top) explore_app.top) check_app.top) savings_app.top
+
+-- ---- what words ask for
+
+-- the numbers that `threads` is asked for. `probe` is the most rounds of tries in a search, `rounds` the number of
+-- times that each mesher searches and meshes. `workers` threads make a search, `seed` gives the words of the shuffles,
+-- and `meshers` threads mesh
+pub record Numbers : Type 0 where
+  pub probe : ℕ
+  pub rounds : ℕ
+  pub workers : ℕ
+  pub seed : ℕ
+  pub meshers : ℕ
+
+-- the part of a plan that `draw` is asked for: the lines `from` to `to`, in this number of columns. 0 columns are as
+-- many as fit
+pub record Shown : Type 0 where
+  pub from : ℕ
+  pub to : ℕ
+  pub columns : ℕ
+
+-- the sizes of a session: its pages, the greatest number of entries in its journal, and its workers
+pub record SessionSizes : Type 0 where
+  pub pages : ℕ
+  pub history : ℕ
+  pub workers : ℕ
+
+-- an answer of an exploration: the line of its command in the file, its text, and the text of a phase
+pub record ShownAnswer : Type 0 where
+  pub line : ℕ
+  pub answer : Text
+  pub phase : Text
+
+-- the criteria of a verdict: the path of the file that lists the expected outcomes, if one is given, and the patterns
+-- that no outcome may match
+pub record Judged : Type 0 where
+  pub expect : Option Text
+  pub never : List Text
+
+-- what is printed of an exploration: all outcomes, one outcome or one answer as a job file, or a verdict
+pub data ToldOf : Type 0 where
+  tells_all : ToldOf
+  tells_outcome : ℕ → ToldOf
+  tells_answer : ShownAnswer → ToldOf
+  tells_verdict : Judged → ToldOf
+
+-- what `explore` is asked for: the meshes, after how many steps each mesh is cancelled, if at all, and the greatest
+-- number of states. Then what is printed, and whether the number of states found is printed as well
+pub record Explored : Type 0 where
+  pub meshes : List MeshPair
+  pub cancel : Option ℕ
+  pub states : ℕ
+  pub told : ToldOf
+  pub is_watched : Bool
+
+-- how `check` judges a recorded history: the most configurations that an object may have if calls overlap, and whether
+-- an order that explains the calls is printed instead of the verdict
+pub record Checked : Type 0 where
+  pub configurations : ℕ
+  pub is_ordered : Bool
+
+-- how `savings` follows a recorded history on two heaps. `every` is the number of freed objects between two rounds of
+-- meshing, and `probe` the most rounds of tries in a search. `seed` gives the words of the objects; without a seed each
+-- word is 0. The figures are of the calls `from` to `to`. If `is_plot` is true, a plot is printed instead of the table
+pub record Compared : Type 0 where
+  pub every : ℕ
+  pub probe : ℕ
+  pub seed : Option ℕ
+  pub from : ℕ
+  pub to : ℕ
+  pub is_plot : Bool
+
+-- what the program is asked for. `check_of` and `savings_of` have the path of a recorded history, the others but
+-- `live_of` the path of a job file:
+-- - `replay_of`: a replay; `replay_history_of`: the recorded history of the replay
+-- - `threads_of`: a run of the scripts by threads; `threads_history_of`: the recorded history of the run
+-- - `draw_of`: a picture of part of the plan
+-- - `explore_of`: an exploration of the commands that the plan leaves
+-- - `live_of`: a session of these sizes
+-- - `check_of`: a judgement of the history; `savings_of`: what meshing saves for the history
+pub data Asked : Type 0 where
+  replay_of : Text → Asked
+  replay_history_of : Text → Asked
+  threads_of : Text → Numbers → Asked
+  threads_history_of : Text → Numbers → Asked
+  draw_of : Text → Shown → Asked
+  explore_of : Text → Explored → Asked
+  live_of : SessionSizes → Asked
+  check_of : Text → Checked → Asked
+  savings_of : Text → Compared → Asked
+
+-- the number that this text spells, if `clap` accepts the text as a number in the range
+abbrev pub number_of : ℕ → ℕ → Text → Option ℕ
+number_of least most text = if is_unsigned_in least most text then Some (digits_value 10 (without_leading_plus text)) else None
+
+-- the number that the matches have for the option of this name, if it is in the range
+abbrev pub number_in : Text → ℕ → ℕ → List Row → Option ℕ
+number_in name least most rows = option_and_then (number_of least most) (one_of name rows)
+
+-- whether the flag of this name is given, from its value in the matches: `true` if given
+abbrev pub flag_in : Text → List Row → Option Bool
+flag_in name rows = option_map (λ value. bytes_eq value (codes "true")) (first_of name rows)
+
+-- whether the flag `--history` is given
+abbrev pub is_recorded_in : List Row → Option Bool
+is_recorded_in rows = flag_in (codes "history") rows
+
+-- what `replay` asks for: with `--history` the recorded history, and otherwise the replay
+abbrev pub replay_by : Text → Bool → Asked
+replay_by file recorded = if recorded then replay_history_of file else replay_of file
+
+-- what `threads` asks for with these numbers: with `--history` the recorded history, and otherwise the answers
+abbrev pub threads_by : Text → Numbers → Bool → Asked
+threads_by file numbers recorded = if recorded then threads_history_of file numbers else threads_of file numbers
+
+-- the numbers of `threads` in the matches
+abbrev pub numbers_in : List Row → Option Numbers
+numbers_in rows =
+    option_and_then (λ probe. option_and_then (λ rounds. option_and_then (λ workers. option_and_then (λ seed.
+    option_map (λ meshers. record { probe = probe; rounds = rounds; workers = workers; seed = seed; meshers = meshers })
+    (number_in (codes "meshers") 1 10 rows)) (number_in (codes "seed") 0 18446744073709551615 rows)) (number_in (codes "workers") 1 16 rows))
+    (number_in (codes "rounds") 0 1000 rows)) (number_in (codes "probe") 0 64 rows)
+
+-- the part of a plan in the matches of `draw`
+abbrev pub shown_in : List Row → Option Shown
+shown_in rows =
+    option_and_then (λ from. option_and_then (λ to. option_map (λ columns. record { from = from; to = to; columns = columns })
+    (number_in (codes "columns") 0 64 rows)) (number_in (codes "to") 1 1048576 rows)) (number_in (codes "from") 1 1048576 rows)
+
+-- the number in the matches for an option, if the option is given. The outer `None` is a number that isn't in the range
+abbrev pub given_in : Text → ℕ → ℕ → List Row → Option (Option ℕ)
+given_in name least most rows = if is_some (first_of name rows) then option_map Some (number_in name least most rows) else Some None
+
+-- the group that this text names. Its number is spelt as in any option, and is at most 65535
+abbrev pub group_of : Text → Option ℕ
+group_of text = number_of 0 65535 text
+
+-- the pair of these two groups, if both exist
+abbrev pub pair_from : Option ℕ → Option ℕ → Option MeshPair
+pair_from source destination = option_and_then (λ s. option_map (λ d. record { source = s; destination = d }) destination) source
+
+-- whether the byte is a colon
+abbrev pub is_colon : ℕ → Bool
+is_colon b = b == 58
+
+-- the pair of groups that a text names: the group before its first colon, and the group after it. No number contains a
+-- colon or is empty, so the text has exactly one colon
+abbrev pub pair_of : Text → Option MeshPair
+pair_of text = pair_from (group_of (before_first is_colon text)) (group_of (after_first is_colon text))
+
+-- whether a text doesn't name a pair of groups
+abbrev pub is_no_pair : Text → Bool
+is_no_pair text = is_none (pair_of text)
+
+-- the pairs that the texts name, if each names a pair
+abbrev pub pairs_in : List Text → Option (List MeshPair)
+pairs_in [] = Some []
+pairs_in (text ∷ texts) = option_and_then (λ pair. option_map (λ pairs. pair ∷ pairs) (pairs_in texts)) (pair_of text)
+
+-- the meshes in the matches: 1 to 10
+abbrev pub meshes_in : List Row → Option (List MeshPair)
+meshes_in rows =
+    option_and_then (λ texts. if nat_le 1 (length texts) && nat_le (length texts) 10 then pairs_in texts else None) (all_of (codes "mesh") rows)
+
+-- the answer and the phase in a text, on both sides of its first colon. The phase may not be empty
+abbrev pub shown_behind : ℕ → Text → Option ShownAnswer
+shown_behind line text =
+    if nat_eq (length (after_first is_colon text)) 0 then None
+    else Some (record { line = line; answer = before_first is_colon text; phase = after_first is_colon text })
+
+-- the answer that a text names: its line, its text and its phase, separated by colons. The line is at least 1
+abbrev pub shown_of_text : Text → Option ShownAnswer
+shown_of_text text = option_and_then (λ line. shown_behind line (after_first is_colon text)) (number_of 1 4294967295 (before_first is_colon text))
+
+-- the value of an option's text, if the option is given. The outer `None` is a text without a value
+abbrev pub of_given : {A : Type 0} → (Text → Option A) → Option Text → Option (Option A)
+of_given read None = Some None
+of_given read (Some text) = option_map Some (read text)
+
+-- the answer in the matches for `--show`, if the option is given
+abbrev pub shown_given_in : List Row → Option (Option ShownAnswer)
+shown_given_in rows = of_given shown_of_text (first_of (codes "show") rows)
+
+-- the texts of an option that may be given at most ten times: empty if the option isn't given
+abbrev pub few_texts : Option (List Text) → Option (List Text)
+few_texts None = Some []
+few_texts (Some texts) = if nat_le (length texts) 10 then Some texts else None
+
+-- the patterns in the matches for `--never`: at most 10
+abbrev pub never_in : List Row → Option (List Text)
+never_in rows = few_texts (all_of (codes "never") rows)
+
+-- whether a verdict is asked for: a file of expected outcomes or a pattern is given
+abbrev pub asks_verdict : Option Text → List Text → Bool
+asks_verdict expect never = is_some expect || not (length never == 0)
+
+-- what is printed: an outcome, an answer or a verdict, if at most one of them is asked for. If none is, all outcomes
+-- are printed
+abbrev pub told_by : Option ℕ → Option ShownAnswer → Bool → Judged → Option ToldOf
+told_by None None true judged = Some (tells_verdict judged)
+told_by None None false judged = Some tells_all
+told_by (Some number) None false judged = Some (tells_outcome number)
+told_by None (Some shown) false judged = Some (tells_answer shown)
+told_by (Some number) None true judged = None
+told_by None (Some shown) true judged = None
+told_by (Some number) (Some shown) is_verdict judged = None
+
+-- what is printed, with this file of expected outcomes, if any, and these patterns
+abbrev pub told_where : Option Text → List Text → Option ℕ → Option ShownAnswer → Option ToldOf
+told_where expect never witness shown = told_by witness shown (asks_verdict expect never) (record { expect = expect; never = never })
+
+-- what is printed according to the matches, with these patterns
+abbrev pub told_in : List Text → List Row → Option ToldOf
+told_in never rows =
+    option_and_then (λ witness. option_and_then (told_where (first_of (codes "expect") rows) never witness) (shown_given_in rows))
+    (given_in (codes "witness") 0 4294967295 rows)
+
+-- what `explore` asks for according to its matches, with these patterns
+abbrev pub explored_in : List Text → List Row → Option Explored
+explored_in never rows =
+    option_and_then (λ meshes. option_and_then (λ cancel. option_and_then (λ states. option_and_then (λ told.
+    option_map (λ is_watched. record { meshes = meshes; cancel = cancel; states = states; told = told; is_watched = is_watched })
+    (flag_in (codes "progress") rows)) (told_in never rows)) (number_in (codes "states") 1 10000000 rows)) (given_in (codes "cancel") 0 1000 rows)) (meshes_in rows)
+
+-- the seed of `savings`: with `--first-fit` none, otherwise the given seed, or 1 if none is given. The outer `None` is
+-- a seed that isn't in range or that is given together with `--first-fit`
+abbrev pub seed_by : Bool → List Row → Option (Option ℕ)
+seed_by first_fit rows =
+    if is_some (first_of (codes "seed") rows)
+    then (if first_fit then None else option_map Some (number_in (codes "seed") 0 18446744073709551615 rows))
+    else Some (if first_fit then None else Some 1)
+
+-- the seed of `savings` according to its matches
+abbrev pub seed_in : List Row → Option (Option ℕ)
+seed_in rows = option_and_then (λ first_fit. seed_by first_fit rows) (flag_in (codes "first-fit") rows)
+
+-- the arguments of `savings`, if `from` is at most `to`
+abbrev pub in_order : Compared → Option Compared
+in_order compared = if nat_le compared.from compared.to then Some compared else None
+
+-- what `check` asks for according to its matches
+abbrev pub checked_in : List Row → Option Checked
+checked_in rows =
+    option_and_then (λ configurations. option_map (λ is_ordered. record { configurations = configurations; is_ordered = is_ordered })
+    (flag_in (codes "order") rows)) (number_in (codes "configurations") 1 4294967295 rows)
+
+-- what `savings` asks for according to its matches
+abbrev pub compared_in : List Row → Option Compared
+compared_in rows =
+    option_and_then (λ every. option_and_then (λ probe. option_and_then (λ seed. option_and_then (λ from. option_and_then (λ to. option_and_then (λ is_plot.
+    in_order (record { every = every; probe = probe; seed = seed; from = from; to = to; is_plot = is_plot }))
+    (flag_in (codes "svg") rows)) (number_in (codes "to") 1 4294967295 rows)) (number_in (codes "from") 1 4294967295 rows)) (seed_in rows))
+    (number_in (codes "probe") 0 64 rows)) (number_in (codes "every") 1 4294967295 rows)
+
+-- the sizes of a session in the matches of `live`
+abbrev pub sizes_in : List Row → Option SessionSizes
+sizes_in rows =
+    option_and_then (λ pages. option_and_then (λ history. option_map (λ workers. record { pages = pages; history = history; workers = workers })
+    (number_in (codes "workers") 1 64 rows)) (number_in (codes "history") 0 65536 rows)) (number_in (codes "pages") 1 4096 rows)
+
+-- what the subcommand of this name asks for, with this file, these matches and these patterns. `live` isn't among these
+-- subcommands, because it needs no file
+abbrev pub asked_of : List Text → Text → List Row → Text → Option Asked
+asked_of never name rows file =
+    if bytes_eq name (codes "replay") then option_map (replay_by file) (is_recorded_in rows)
+    else (if bytes_eq name (codes "threads") then option_and_then (λ numbers. option_map (threads_by file numbers) (is_recorded_in rows)) (numbers_in rows)
+    else (if bytes_eq name (codes "draw") then option_map (draw_of file) (shown_in rows)
+    else (if bytes_eq name (codes "explore") then option_map (explore_of file) (explored_in never rows)
+    else (if bytes_eq name (codes "check") then option_map (check_of file) (checked_in rows)
+    else (if bytes_eq name (codes "savings") then option_map (savings_of file) (compared_in rows) else None)))))
+
+-- what the subcommand of this name asks for, with these matches and these patterns. All but `live` need a file
+abbrev pub asked_with : List Text → Text → List Row → Option Asked
+asked_with never name rows =
+    if bytes_eq name (codes "live") then option_map live_of (sizes_in rows) else option_and_then (asked_of never name rows) (first_of (codes "FILE") rows)
+
+-- what the subcommand of this name asks for, with these matches. Only `explore` may have patterns
+abbrev pub asked_by : Text → List Row → Option Asked
+asked_by name rows = option_and_then (λ never. asked_with never name rows) (never_in rows)
+
+-- what the subcommand and its matches, if there are any, ask for
+abbrev pub asked_in : Option (Text × List Row) → Option Asked
+asked_in None = None
+asked_in (Some found) = asked_by found.0 found.1
+
+-- what the words of a command line ask for
+unfoldable pub asked : List Text → Option Asked
+asked words = asked_in (subcommand_of meshrun_app words)
+
+-- the patterns in what was found of a subcommand. There are none without a subcommand, and none are taken if more than
+-- ten are given
+abbrev pub never_found : Option (Text × List Row) → List Text
+never_found None = []
+never_found (Some found) = unwrap_or (never_in found.1) []
+
+-- the patterns that the words of a command line have
+unfoldable pub never_asked : List Text → List Text
+never_asked words = never_found (subcommand_of meshrun_app words)
+
+-- whether the words are a command line of the program
+unfoldable pub is_taken : List Text → Bool
+is_taken words = takes meshrun_app words
+
+-- the faults that the words may have, and the requests for help or the version
+unfoldable pub kinds_of : List Text → Kinds
+kinds_of words = fault_of meshrun_app words
+
+-- the numbers of parsed arguments for `threads`
+abbrev pub numbers_of : ThreadsArgs → Numbers
+numbers_of args = record { probe = args.probe; rounds = args.rounds; workers = args.workers; seed = args.seed; meshers = args.meshers }
+
+-- the part of a plan in parsed arguments for `draw`
+abbrev pub shown_of : DrawArgs → Shown
+shown_of args = record { from = args.from; to = args.to; columns = args.columns }
+
+-- the answer in parsed arguments for `explore --show`
+abbrev pub shown_answer_of : ShownArgs → ShownAnswer
+shown_answer_of args = record { line = args.line; answer = args.answer.now; phase = args.phase.now }
+
+-- what is printed according to parsed arguments, with these patterns
+abbrev pub told_of : List Text → Told → ToldOf
+told_of never All = tells_all
+told_of never (Outcome number) = tells_outcome number
+told_of never (Answer shown) = tells_answer (shown_answer_of shown)
+told_of never (Verdict expect) = tells_verdict (record { expect = option_map (λ path. path.now) expect; never = never })
+
+-- the exploration in parsed arguments, with these patterns
+abbrev pub explored_of : List Text → ExploreArgs → Explored
+explored_of never args =
+    record { meshes = pairs_of args.meshes; cancel = args.cancel; states = args.states; told = told_of never args.told; is_watched = args.is_watched }
+
+-- the judgement in parsed arguments for `check`
+abbrev pub checked_of : CheckArgs → Checked
+checked_of args = record { configurations = args.configurations; is_ordered = args.is_ordered }
+
+-- the comparison in parsed arguments for `savings`
+abbrev pub compared_of : SavingsArgs → Compared
+compared_of args = record { every = args.every; probe = args.probe; seed = args.seed; from = args.from; to = args.to; is_plot = args.is_plot }
+
+-- the sizes of parsed arguments for `live`
+abbrev pub sizes_of : LiveArgs → SessionSizes
+sizes_of args = record { pages = args.pages; history = args.history; workers = args.workers }
+
+-- what parsed arguments ask for, with these patterns
+abbrev pub asking : List Text → Args → Asked
+asking never (Replay path) = replay_of path.now
+asking never (ReplayHistory path) = replay_history_of path.now
+asking never (Threads path args) = threads_of path.now (numbers_of args)
+asking never (ThreadsHistory path args) = threads_history_of path.now (numbers_of args)
+asking never (Draw path args) = draw_of path.now (shown_of args)
+asking never (Explore path args) = explore_of path.now (explored_of never args)
+asking never (Live args) = live_of (sizes_of args)
+asking never (Check path args) = check_of path.now (checked_of args)
+asking never (Savings path args) = savings_of path.now (compared_of args)
+
+-- what a parsed command line asks for
+abbrev pub asking_of : Parsed → Asked
+asking_of parsed = asking (texts_of parsed.never) parsed.args
+
+-- the words ask for what these arguments ask for, with the patterns that the words have
+abbrev pub IsAsked : List Text → Args → Type 0
+IsAsked words args = asked words ≡ Some (asking (never_asked words) args)
+
+-- the words ask for what was parsed, and have its patterns
+pub record IsParsed (words : List Text) (parsed : Parsed) : Type 0 where
+  pub args : IsAsked words parsed.args
+  pub never : texts_of parsed.never ≡ never_asked words
+
+-- the error that may be reported of the words: out of memory, a fault of the words, or a request for help. If the words
+-- ask for nothing, the error may also be that a value can't be read
+abbrev pub IsSaidOf : List Text → ErrorKind → Type 0
+IsSaidOf words kind =
+    (kind ≡ OutOfMemory) ⊎ (IsAmong kind (kinds_of words) ⊎ ((asked words ≡ None) × (kind ≡ ValueValidation)))
+
+-- if the words are a command line of the program, the only error is out of memory, or the words ask for nothing
+abbrev pub IsAllowedOf : List Text → ErrorKind → Type 0
+IsAllowedOf words kind = is_taken words ≡ true → (kind ≡ OutOfMemory) ⊎ (asked words ≡ None)
+
+-- ---- how the program stops
+
+-- the exit status for an error or a request that `clap` reports: 1 if out of memory, 0 for help and version, otherwise
+-- 2
+abbrev pub status_of_kind : ErrorKind → ℕ
+status_of_kind OutOfMemory = 1
+status_of_kind DisplayHelp = 0
+status_of_kind DisplayVersion = 0
+status_of_kind other = 2
+
+-- the program stops because it is out of memory
+pub record IsOutOfMemory (stop : Stop) : Type 0 where
+  pub status : stop.status ≡ 1
+  pub text : cow_str_bytes stop.text ≡ ended (codes "out of memory")
+
+-- the program stops because the command line isn't UTF-8 text
+pub record IsNoText (stop : Stop) : Type 0 where
+  pub status : stop.status ≡ 2
+  pub text : cow_str_bytes stop.text ≡ ended (codes "error: the command line is not UTF-8 text")
+
+-- the program stops because it is out of memory, or with the exit status for what `clap` reports of these words
+abbrev pub IsStopAt : List Text → Stop → Type 0
+IsStopAt words stop = IsOutOfMemory stop ⊎ ((kind : ErrorKind) × IsSaidOf words kind × (stop.status ≡ status_of_kind kind))

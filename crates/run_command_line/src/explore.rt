@@ -1,0 +1,45 @@
+//! The request of `explore`.
+ghost use Rattle.std.specs.Prelude.{◌≡◌, option_map};
+ghost use Rattle.clap.specs.Words.{found_of, rows_of};
+ghost use Rattle.run_command_line.specs.Patterns.{texts_of};
+ghost use Rattle.run_command_line.specs.CommandLine.{asking, explore_of, explored_in, explored_of};
+
+use crate::mesh_texts::meshes;
+use crate::options::{CANCEL, PROGRESS, STATES};
+use crate::told::told;
+use crate::values::{is_given, number_if_given, small_number};
+use crate::{Args, ExploreArgs, Patterns};
+use clap::ArgMatches;
+
+/// Returns the request of `explore` for this file, with these patterns. Returns `None` if the program doesn't accept
+/// its options.
+pub(crate) fn explore<'a>(
+    file: &'a str,
+    matches: &ArgMatches<'a>,
+    never: &Patterns<'a>,
+) -> Option<Args<'a>>
+    ensures { option_map (asking (texts_of never.now)) result
+        ≡ option_map (explore_of file.now) (explored_in (texts_of never.now) (rows_of (found_of matches.now))) }
+{
+    let explored = explored(matches, never)?;
+    Some(Args::Explore(file, explored))
+}
+
+/// Returns the arguments of `explore`, or `None` if the program doesn't accept its options.
+fn explored<'a>(matches: &ArgMatches<'a>, never: &Patterns<'a>) -> Option<ExploreArgs<'a>>
+    ensures { option_map (explored_of (texts_of never.now)) result
+        ≡ explored_in (texts_of never.now) (rows_of (found_of matches.now)) }
+{
+    let meshes = meshes(matches)?;
+    let cancel = number_if_given(matches, CANCEL)?;
+    let states = small_number(matches, STATES)?;
+    let told = told(matches, never)?;
+    let is_watched = is_given(matches, PROGRESS)?;
+    Some(ExploreArgs {
+        meshes,
+        cancel,
+        states,
+        told,
+        is_watched,
+    })
+}

@@ -1,0 +1,46 @@
+//! The arguments of `explore`.
+ghost use Rattle.run_command_line.specs.ExploreArgs.{AreInRange};
+
+use crate::Meshes;
+
+/// The arguments of `explore` other than its file. The type guarantees that `meshes`, `cancel` and `states` are in
+/// their ranges.
+#[derive(Clone, Copy)]
+pub struct ExploreArgs<'a> {
+    /// The meshes, one to ten.
+    pub meshes: Meshes,
+    /// The number of steps after which each mesh is cancelled, 0 to 1,000. `None` if meshes aren't cancelled.
+    pub cancel: Option<u32>,
+    /// The greatest number of states that the exploration may keep, 1 to 10,000,000.
+    pub states: u32,
+    /// The selection of what is printed.
+    pub told: Told<'a>,
+    /// Whether the number of found states is printed on standard error even if standard error is no terminal.
+    pub is_watched: bool,
+    pub ghost ranges: { AreInRange meshes cancel states },
+}
+
+/// The selection of what an exploration prints.
+#[derive(Clone, Copy)]
+pub enum Told<'a> {
+    /// All answers and outcomes.
+    All,
+    /// The outcome with this number, as a job file.
+    Outcome(u32),
+    /// An answer in a phase of a mesh, as a job file.
+    Answer(ShownArgs<'a>),
+    /// A verdict on the outcomes. If a path is given, the outcomes are compared with those that the file at this path
+    /// lists. No outcome may match a pattern.
+    Verdict(Option<&'a str>),
+}
+
+/// The answer that `--show` names.
+#[derive(Clone, Copy)]
+pub struct ShownArgs<'a> {
+    /// The line of the command in the job file, counted from 1.
+    pub line: u32,
+    /// The answer, as it is printed.
+    pub answer: &'a str,
+    /// The phase, as it is printed.
+    pub phase: &'a str,
+}

@@ -1,0 +1,98 @@
+//! The selection of what an exploration prints.
+ghost use Rattle.std.specs.Prelude.{◌≡◌, List, ℕ, option_map};
+ghost use Rattle.clap.specs.Words.{found_of, rows_of};
+ghost use Rattle.run_command_line.specs.Patterns.{texts_of};
+ghost use Rattle.run_command_line.specs.CommandLine.{asks_verdict, number_of, shown_answer_of, shown_behind, shown_given_in, shown_of_text, told_by, told_in, told_of};
+
+use crate::options::{EXPECT, SHOW, WITNESS};
+use crate::values::{BETWEEN, number_if_given, spelt_number};
+use crate::{Patterns, ShownArgs, Told};
+use clap::ArgMatches;
+
+/// The greatest number of a line in an option.
+const LAST_LINE: u64 = 4294967295;
+
+/// Returns the selection of what an exploration prints. Returns `None` if more than one of an outcome, an answer and a
+/// verdict is asked for, or if the outcome or the answer can't be read.
+pub(crate) fn told<'a>(matches: &ArgMatches<'a>, never: &Patterns<'a>) -> Option<Told<'a>>
+    ensures { option_map (told_of (texts_of never.now)) result
+        ≡ told_in (texts_of never.now) (rows_of (found_of matches.now)) }
+{
+    let witness = number_if_given(matches, WITNESS)?;
+    let shown = shown_if_given(matches)?;
+    let expect = matches.get_str(EXPECT);
+    told_by(witness, shown, is_verdict(expect, never), expect)
+}
+
+/// Whether a verdict is asked for, by `--expect` or `--never`.
+fn is_verdict<'a>(expect: Option<&'a str>, never: &Patterns<'a>) -> bool
+    ensures { result ≡ asks_verdict (option_map (λ path. path.now) expect.entry) (texts_of never.now) }
+{
+    expect.is_some() || !never.as_slice().is_empty()
+}
+
+/// Returns the selection of what an exploration prints. Returns `None` if more than one of an outcome, an answer and a
+/// verdict is asked for.
+fn told_by<'a>(
+    witness: Option<u32>,
+    shown: Option<ShownArgs<'a>>,
+    is_verdict: bool,
+    expect: Option<&'a str>,
+) -> Option<Told<'a>>
+    ensures { (never : List (List ℕ)) → option_map (told_of never) result
+        ≡ told_by witness (option_map shown_answer_of shown.entry) is_verdict
+        (record { expect = option_map (λ path. path.now) expect.entry; never = never }) }
+{
+    match (witness, shown, is_verdict) {
+        (None, None, true) => Some(Told::Verdict(expect)),
+        (None, None, false) => Some(Told::All),
+        (Some(number), None, false) => Some(Told::Outcome(number)),
+        (None, Some(shown), false) => Some(Told::Answer(shown)),
+        (Some(_), None, true) | (None, Some(_), true) | (Some(_), Some(_), _) => None,
+    }
+}
+
+/// Returns the answer that `--show` names, or `Some(None)` if `--show` isn't given. Returns `None` if the text of
+/// `--show` can't be read.
+fn shown_if_given<'a>(matches: &ArgMatches<'a>) -> Option<Option<ShownArgs<'a>>>
+    ensures { option_map (option_map shown_answer_of) result ≡ shown_given_in (rows_of (found_of matches.now)) }
+{
+    match matches.get_str(SHOW) {
+        Some(text) => Some(Some(shown_answer(text)?)),
+        None => Some(None),
+    }
+}
+
+/// Returns the answer that a text names: a line, an answer and a phase, with colons between them. Returns `None` if the
+/// text can't be read.
+pub(crate) fn shown_answer(text: &str) -> Option<ShownArgs<'_>>
+    ensures { option_map shown_answer_of result ≡ shown_of_text text.now }
+{
+    let (line, behind) = text.split_once(BETWEEN)?;
+    let line = line_number(line)?;
+    shown_at(line, behind)
+}
+
+/// Returns the answer at a line that a text names: an answer and a phase, with a colon between them. Returns `None` if
+/// the text has no colon or no phase.
+fn shown_at(line: u32, text: &str) -> Option<ShownArgs<'_>>
+    ensures { option_map shown_answer_of result ≡ shown_behind line text.now }
+{
+    let (answer, phase) = text.split_once(BETWEEN)?;
+    if phase.is_empty() {
+        return None;
+    }
+    Some(ShownArgs {
+        line,
+        answer,
+        phase,
+    })
+}
+
+/// Reads the number of a line, 1 to 4294967295, in the form of a number option of `clap`. Returns `None` if the text is
+/// no such number.
+fn line_number(text: &str) -> Option<u32>
+    ensures { result ≡ number_of 1 4294967295 text.now }
+{
+    spelt_number(text, 1, LAST_LINE)
+}

@@ -1,0 +1,27 @@
+-- How a drawing and a live session end. A failure of the output is never reported as out of memory.
+use Rattle.std.specs.Prelude.{◌≡◌, ℕ, Bool, false}
+use Rattle.draw_job.specs.Draws.{HasDrawn, HasNotDrawn}
+use Rattle.run_live.specs.Runs.{HasLived, HasStopped}
+use Rattle.run_live.specs.declared.sizes.Sizes.{Sizes}
+use Rattle.run_program.specs.Runs.{EndsBy, HasFailed, error_text}
+use Rattle.run_program.specs.Seen.{Seen}
+use Rattle.run_program.specs.Status.{status_of_error}
+use Rattle.text_devices.specs.declared.faults.ReplayError.{ReplayError}
+use Rattle.text_devices.specs.declared.faults.ReplayError.TheVariants.{Read, Write, Memory, Text}
+
+-- the device that the error names, if any, has failed. If the error is out of memory, the output hasn't failed
+abbrev pub HasFailedAlone : Bool → Bool → ReplayError → Type 0
+HasFailedAlone input output Memory = output ≡ false
+HasFailedAlone input output Read = HasFailed input output Read
+HasFailedAlone input output Write = HasFailed input output Write
+HasFailedAlone input output (Text fault) = HasFailed input output (Text fault)
+
+-- how a drawing ends. If the status is 0, an SVG file was written
+abbrev pub EndsDraw : Seen → Seen → ℕ → Type 0
+EndsDraw before after status =
+    EndsBy status_of_error error_text HasFailedAlone (λ left left' written written'. HasDrawn written written') HasNotDrawn before after status
+
+-- how a live session ends
+abbrev pub EndsLive : Sizes → Seen → Seen → ℕ → Type 0
+EndsLive sizes before after status =
+    EndsBy status_of_error error_text HasFailedAlone (HasLived sizes) (λ left left' written written' error. HasStopped sizes left written written') before after status

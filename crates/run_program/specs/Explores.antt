@@ -1,0 +1,149 @@
+-- What an exploration prints if it stops, and which device has failed.
+use Rattle.std.specs.Prelude.{◌≡◌, ◌<◌, ◌≤◌, ◌⊎◌, ℕ, ◌+◌, Bool, true, false, List, ◌++◌, Option, Some, None, codes, decimal, map, slice_get, take}
+use Rattle.std.specs.Option.{option_copied}
+use Rattle.run_command_line.specs.declared.explore_args.ExploreArgs.{ExploreArgs}
+use Rattle.run_command_line.specs.declared.explore_args.ShownArgs.{ShownArgs}
+use Rattle.run_command_line.specs.declared.explore_args.Told.{Told}
+use Rattle.run_command_line.specs.declared.explore_args.Told.TheVariants as told
+use Rattle.explore_interleavings.specs.declared.pair.MeshPair.{MeshPair}
+use Rattle.explore_report.specs.Errors.{refused}
+use Rattle.explore_report.specs.Explorations.{HasExplored, HasTooMany}
+use Rattle.explore_report.specs.declared.errors.ExploreError.{ExploreError}
+use Rattle.explore_report.specs.declared.errors.ExploreError.TheVariants.{Replay, TooManyStates, NoOutcome, NotShown}
+use Rattle.explore_report.specs.declared.wanted.Shown.{Shown}
+use Rattle.explore_report.specs.declared.wanted.Wanted.{Wanted}
+use Rattle.explore_report.specs.declared.wanted.Wanted.TheVariants as wanted
+use Rattle.run_program.specs.Runs.{EndsBy, HasFailed, IsDone, IsStoppedFor, MovesBy, Moves, error_text}
+use Rattle.run_program.specs.Seen.{Seen}
+use Rattle.run_program.specs.declared.criteria.Criteria.{Criteria}
+use Rattle.run_program.specs.Status.{status_of_error}
+use Rattle.run_program.specs.declared.verdict_error.VerdictError.{VerdictError}
+use Rattle.run_program.specs.declared.verdict_error.VerdictError.TheVariants.{Explore, NoPattern}
+use Rattle.explore_verdict.specs.Patterns.{pattern_of, Wanted as Pattern}
+use Rattle.explore_verdict.specs.Runs.{HasJudged}
+
+-- an error's line, without its end, and its status. The status is 2 if the file has a fault, or if the outcome or the
+-- answer that was asked for doesn't exist. Otherwise it is 1
+abbrev explore_told : ℕ → ExploreError → List ℕ × ℕ
+explore_told states (Replay error) = (error_text error, status_of_error error)
+explore_told states TooManyStates = (codes "too many states: more than " ++ decimal states ++ codes "; --states raises the limit", 1)
+explore_told states NoOutcome = (codes "no such outcome", 2)
+explore_told states NotShown = (codes "no such answer in that phase", 2)
+
+-- an error's line, without its end, for an exploration of at most this number of states. The next definition is the
+-- error's status
+abbrev pub explore_text : ℕ → ExploreError → List ℕ
+explore_text states error = (explore_told states error).0
+
+abbrev pub explore_status : ExploreError → ℕ
+explore_status error = (explore_told 0 error).1
+
+-- the device that the error names, if any, has failed
+abbrev pub HasFailedExplore : Bool → Bool → ExploreError → Type 0
+HasFailedExplore input output (Replay error) = HasFailed input output error
+HasFailedExplore input output TooManyStates = Unit {0}
+HasFailedExplore input output NoOutcome = Unit {0}
+HasFailedExplore input output NotShown = Unit {0}
+
+-- the meshes of an exploration
+abbrev pub meshes_of : ExploreArgs → List MeshPair
+meshes_of args = take args.meshes.count args.meshes.pairs
+
+-- what was read before an exploration stopped for this error. If there were too many states, a job with too many states
+-- was read. The other errors promise nothing
+abbrev pub HasStoppedExplore : List MeshPair → Option ℕ → ℕ → MovesBy ExploreError
+HasStoppedExplore pairs cancel most left left' written written' TooManyStates = HasTooMany pairs cancel most left left'
+HasStoppedExplore pairs cancel most left left' written written' (Replay error) = Unit {0}
+HasStoppedExplore pairs cancel most left left' written written' NoOutcome = Unit {0}
+HasStoppedExplore pairs cancel most left left' written written' NotShown = Unit {0}
+
+-- how an exploration without a verdict ends. If the status is 0, what is wanted of the job with these meshes and this
+-- cancel was written
+abbrev pub EndsListing : ExploreArgs → Wanted → Seen → Seen → ℕ → Type 0
+EndsListing args wanted before after status =
+    EndsBy explore_status (explore_text args.states) HasFailedExplore (HasExplored (meshes_of args) args.cancel args.states wanted)
+    (HasStoppedExplore (meshes_of args) args.cancel args.states) before after status
+
+-- this is the answer that is asked for
+pub record IsShownOf (args : ShownArgs) (shown : Shown) : Type 0 where
+  pub line : shown.line ≡ args.line
+  pub answer : shown.answer.now ≡ args.answer.now
+  pub phase : shown.phase.now ≡ args.phase.now
+
+-- ---- verdicts
+
+-- the texts of the patterns that no outcome may match
+abbrev pub never_of : Criteria → List (List ℕ)
+never_of criteria = map (λ text. text.now) criteria.never.now
+
+-- the texts spell these patterns, in this order
+abbrev pub AreSpelt : List (List ℕ) → List Pattern → Type 0
+AreSpelt texts patterns = map pattern_of texts ≡ map Some patterns
+
+-- the job was read, and the verdict on its outcomes was written: whether the outcomes meet the criteria
+abbrev pub HasJudgedBy : ExploreArgs → Criteria → Bool → Moves
+HasJudgedBy args criteria well left left' written written' =
+    (never : List Pattern) × AreSpelt (never_of criteria) never
+    × HasJudged (meshes_of args) args.cancel args.states never (option_copied criteria.expected) left left' written written' well
+
+-- an error's line, without its end
+abbrev pub verdict_text : ℕ → VerdictError → List ℕ
+verdict_text states (Explore error) = explore_text states error
+verdict_text states (NoPattern number) = codes "--never " ++ decimal number ++ codes ": no pattern 'worker W: ANSWER | ..'"
+
+-- the status of an error that prevents a verdict: 2 for a faulty pattern, otherwise the status of the exploration's
+-- error
+abbrev pub verdict_status : VerdictError → ℕ
+verdict_status (Explore error) = explore_status error
+verdict_status (NoPattern number) = 2
+
+-- the device that the error names, if any, has failed
+abbrev pub HasFailedVerdict : Bool → Bool → VerdictError → Type 0
+HasFailedVerdict input output (Explore error) = HasFailedExplore input output error
+HasFailedVerdict input output (NoPattern number) = Unit {0}
+
+-- the text of this number, counted from 1, spells no pattern
+pub record SpellsNone (texts : List (List ℕ)) (number : ℕ) : Type 0 where
+  pub place : ℕ
+  pub text : List ℕ
+  pub counted : number ≡ place + 1
+  pub there : slice_get texts place ≡ Some text
+  pub none : pattern_of text ≡ None
+
+-- why texts aren't all patterns: an allocation failed, or one text spells no pattern
+abbrev pub IsUnread : List (List ℕ) → VerdictError → Type 0
+IsUnread texts (Explore error) = error ≡ refused
+IsUnread texts (NoPattern number) = SpellsNone texts number
+
+-- what was read before an exploration stopped for this error without a verdict
+abbrev pub HasStoppedVerdict : ExploreArgs → Criteria → MovesBy VerdictError
+HasStoppedVerdict args criteria left left' written written' (Explore error) =
+    HasStoppedExplore (meshes_of args) args.cancel args.states left left' written written' error
+HasStoppedVerdict args criteria left left' written written' (NoPattern number) = SpellsNone (never_of criteria) number
+
+-- a verdict was written, no device failed, and no message was printed
+abbrev pub IsJudged : ExploreArgs → Criteria → Bool → Seen → Seen → Type 0
+IsJudged args criteria well before after = IsDone (HasJudgedBy args criteria well) before after
+
+-- how a verdict ends. If the status is 0, the outcomes meet the criteria. Otherwise the status is 1 and they don't, or
+-- the exploration stopped for an error with this status. The status is at most 2
+pub record EndsVerdict (args : ExploreArgs) (criteria : Criteria) (before after : Seen) (status : ℕ) : Type 0 where
+  pub done : status ≡ 0 → IsJudged args criteria true before after
+  pub found : 0 < status → ((status ≡ 1) × IsJudged args criteria false before after)
+      ⊎ ((error : VerdictError) × (status ≡ verdict_status error)
+      × IsStoppedFor (verdict_text args.states) HasFailedVerdict (HasStoppedVerdict args criteria) before after error)
+  pub small : status ≤ 2
+
+-- ---- explorations
+
+-- how an exploration with this kind of report ends
+abbrev pub EndsTold : ExploreArgs → Told → Criteria → Seen → Seen → ℕ → Type 0
+EndsTold args told.All criteria before after status = EndsListing args wanted.All before after status
+EndsTold args (told.Outcome number) criteria before after status = EndsListing args (wanted.Outcome number) before after status
+EndsTold args (told.Answer shown) criteria before after status =
+    (asked : Shown) × IsShownOf shown asked × EndsListing args (wanted.Answer asked) before after status
+EndsTold args (told.Verdict expect) criteria before after status = EndsVerdict args criteria before after status
+
+-- how an exploration ends
+abbrev pub EndsExplore : ExploreArgs → Criteria → Seen → Seen → ℕ → Type 0
+EndsExplore args criteria before after status = EndsTold args args.told criteria before after status

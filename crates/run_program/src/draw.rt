@@ -1,0 +1,44 @@
+//! The program's picture of a plan.
+ghost use Rattle.std.specs.Prelude.{◌≡◌};
+ghost use Rattle.run_program.specs.Draws.{EndsDraw};
+ghost use Rattle.run_program.specs.Runs.{IsSound};
+
+use crate::runs::finished;
+use crate::{Devices, DrawArgs};
+use draw_job::{DrawOptions, draw};
+use std::alloc::Global;
+use text_devices::{Sink, Source};
+
+/// Draws the plan of the job in the input, and writes the picture to the output. If the run stops with an error, writes
+/// the error's line to `errors`. Returns the exit status.
+///
+/// The exit status and the line in `errors` are those of `replay_run`. Nothing is written to the output if the input
+/// failed or its text has a fault.
+pub fn draw_run<I: Source, O: Sink, E: Sink>(
+    alloc: Global,
+    title: &str,
+    args: &DrawArgs,
+    devices: &mut Devices<I, O, E>,
+) -> u8
+    requires { IsSound devices.old }
+    ensures { EndsDraw devices.old devices.new result }
+{
+    let options = options_of(title, args);
+    let outcome = draw(alloc, &mut devices.input, &mut devices.output, &options);
+    finished(&mut devices.errors, outcome)
+}
+
+/// The options of a picture.
+fn options_of<'a>(title: &'a str, args: &DrawArgs) -> DrawOptions<'a>
+    ensures title { result.title.now ≡ title.now }
+    ensures from { result.from ≡ args.now.from }
+    ensures to { result.to ≡ args.now.to }
+    ensures columns { result.columns ≡ args.now.columns }
+{
+    DrawOptions {
+        title,
+        from: args.from,
+        to: args.to,
+        columns: args.columns,
+    }
+}

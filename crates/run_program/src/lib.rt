@@ -1,0 +1,53 @@
+//! The runs of the program `meshrun` over any devices, with their exit statuses.
+//!
+//! Nothing in this crate opens a file or prints by itself. The program passes in a source for the file, sinks for
+//! standard output and standard error, and the arguments that `run_command_line` reads from the words of the command
+//! line. The program exits with the returned status.
+//!
+//! An `AllocError` means that an allocation failed.
+#![tactic(auto)]
+
+mod check;
+mod check_error;
+mod criteria;
+mod devices;
+mod draw;
+mod explore;
+mod fault_line;
+mod live;
+mod order;
+mod printed;
+mod progress;
+mod runs;
+mod savings;
+mod shuffle_words;
+pub mod status_laws;
+mod threads;
+mod threads_error;
+mod verdict;
+mod verdict_error;
+pub mod word_laws;
+
+pub use check::check_run;
+pub use check_error::CheckError;
+pub use criteria::Criteria;
+pub use devices::Devices;
+pub use draw::draw_run;
+pub use explore::explore_run;
+pub use history_judge::Begun;
+pub use live::live_run;
+pub use order::order_run;
+pub use progress::Progress;
+pub use run_command_line::{
+    Args, CheckArgs, DrawArgs, ExploreArgs, LiveArgs, MeshPair, Meshes, Patterns, SavingsArgs,
+    ShownArgs, Stop, ThreadsArgs, Told, arguments, patterns, unread_words,
+};
+pub use runs::{replay_history_run, replay_run, stop_run, unopened_run};
+pub use savings::savings_run;
+pub use shuffle_words::words;
+pub use states_reach::{Unwatched, Watch};
+pub use text_devices::{DeviceFault, Input, Output, Sink, Source};
+pub use threads::{threads_history_run, threads_run, threads_stopped};
+pub use threads_error::ThreadsError;
+pub use verdict::expected_run;
+pub use verdict_error::VerdictError;

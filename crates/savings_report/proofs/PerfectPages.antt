@@ -1,0 +1,70 @@
+-- Perfect packing, class by class.
+use Rattle.std.proofs.Common.{◌≡◌, ℕ, zero, suc, ◌+◌, ◌<◌, ◌≤◌, List, [], ◌∷◌, length, map, get_or, slice_index, slice_set, ap, inl, inr, refl, sym, subst, ◌∙◌, arith}
+use Rattle.std.proofs.lemmas.Bool.Decides.{eqb_tells}
+use Rattle.std.proofs.lemmas.Grind.{same_number_lists}
+use Rattle.std.proofs.lemmas.List.{get_or-set_other, get_or-set_same}
+use Rattle.std.specs.List.{All}
+use Rattle.model_heap.specs.Table.{Table}
+use Rattle.model_words.specs.Classes.{Row, table}
+use Rattle.savings_report.specs.FigureSamples.{AreFew, of_class}
+use Rattle.savings_placement.specs.ClassCounts.{class_objects, class_pages}
+use Rattle.savings_placement.specs.ClassLaws.{FitsPages, ObjectsFitPages, pages_needed}
+use Rattle.savings_replay.specs.Alike.{ClassesAreAlike, HeapsAreSound}
+use Rattle.savings_report.specs.Laws.{PerfectIsLeast}
+use Rattle.savings_report.specs.Samples.{perfect_pages, physical_pages, sample_of}
+
+-- one place more
+pub next_needed : (pages classes objects : List ℕ) (k n : ℕ) → k < length pages → n ≡ pages_needed (slice_index classes k) (slice_index objects k)
+    → ((j : ℕ) → j < k → slice_index pages j ≡ pages_needed (slice_index classes j) (slice_index objects j))
+    → (j : ℕ) → j < k + 1 → slice_index (slice_set pages k n) j ≡ pages_needed (slice_index classes j) (slice_index objects j)
+next_needed pages classes objects k n room is before j below =
+    elim (eqb_tells j k) [
+      | inl same ↦ let at : ℕ → Type 0 = λ i. slice_index (slice_set pages k n) i ≡ pages_needed (slice_index classes i) (slice_index objects i) in
+          subst at (sym same.1) (get_or-set_same pages k n 0 room ∙ is)
+      | inr other ↦ let apart = other.1 in
+          get_or-set_other pages k j n 0 apart ∙ before j (omega (arith, apart, below))
+    ]
+
+-- at a place of the table
+row_needed : (t : Table) (rows : List Row) (k : ℕ) → k < length rows
+    → pages_needed (get_or (map (λ r. r.size) rows) k 0) (get_or (map (λ row. class_objects t row.size) rows) k 0)
+    ≡ get_or (map (λ row. pages_needed row.size (class_objects t row.size)) rows) k 0
+row_needed t [] k below = absurd (omega (arith, below))
+row_needed t (r ∷ rows) zero below = refl
+row_needed t (r ∷ rows) (suc k) below = row_needed t rows k (omega (arith, below))
+
+-- pages that are needed at each place of the table are those of perfect packing
+pub are_perfect : (t : Table) (classes objects pages : List ℕ) → classes ≡ map (λ r. r.size) table → objects ≡ map (λ row. class_objects t row.size) table
+    → length pages ≡ 10 → ((k : ℕ) → k < 10 → slice_index pages k ≡ pages_needed (slice_index classes k) (slice_index objects k)) → pages ≡ perfect_pages t
+are_perfect t classes objects pages classes_are objects_are len each =
+    same_number_lists pages (perfect_pages t) len (λ k below.
+    let here : k < 10 = omega (arith, below, len) in
+    each k here ∙ ap (λ (cs : List ℕ). pages_needed (slice_index cs k) (slice_index objects k)) classes_are
+    ∙ ap (λ (os : List ℕ). pages_needed (slice_index (map (λ r. r.size) table) k) (slice_index os k)) objects_are
+    ∙ row_needed t table k here)
+
+-- they are few where the physical pages are
+rows_few : (t : Table) (rows : List Row) → FitsPages t → All (λ n. n ≤ 65538) (map (λ row. class_pages t row.size) rows)
+    → All (λ n. n < 131072) (map (λ row. pages_needed row.size (class_objects t row.size)) rows)
+rows_few t [] fits few k d below = absurd (omega (arith, below))
+rows_few t (r ∷ rows) fits few zero d below =
+    let most : class_pages t r.size ≤ 65538 = few 0 0 (omega arith) in omega (arith, most, fits r.size)
+rows_few t (r ∷ rows) fits few (suc k) d below = rows_few t rows fits (λ j e less. few (suc j) e (omega (arith, less))) k d (omega (arith, below))
+
+pub perfect_few : (t : Table) → FitsPages t → All (λ n. n ≤ 65538) (physical_pages t) → AreFew (perfect_pages t)
+perfect_few t fits few = rows_few t table fits few
+
+-- fewer pages than a heap has that has as many objects of each class
+rows_least : (t u : Table) (rows : List Row) → FitsPages u → ((class : ℕ) → class_objects t class ≡ class_objects u class) → (k : ℕ)
+    → of_class k (map (λ row. pages_needed row.size (class_objects t row.size)) rows) ≤ of_class k (map (λ row. class_pages u row.size) rows)
+rows_least t u [] fits alike k = omega arith
+rows_least t u (r ∷ rows) fits alike zero = subst (λ n. pages_needed r.size n ≤ class_pages u r.size) (sym (alike r.size)) (fits r.size)
+rows_least t u (r ∷ rows) fits alike (suc k) = rows_least t u rows fits alike k
+
+pub perfect_least : ObjectsFitPages → HeapsAreSound → ClassesAreAlike → PerfectIsLeast
+unfolding sample_of
+perfect_least fit sound alike settings calls f is =
+    let kept = sound settings calls f is in record {
+      without = rows_least f.heaps.without f.heaps.without table (fit f.heaps.without kept.without) (λ class. refl);
+      with = rows_least f.heaps.without f.heaps.meshing.table table (fit f.heaps.meshing.table kept.with) (λ class. alike settings calls f class is);
+    }

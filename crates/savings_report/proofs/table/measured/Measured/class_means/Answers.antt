@@ -1,0 +1,11 @@
+use Rattle.savings_report.specs.declared.table.samples.Sample.{Sample}
+use Rattle.savings_report.proofs.FigureLemmas.{class_mean}
+use Rattle.savings_report.proofs.table.measured.Measured.class_means.Goals as goal
+
+pub returns : goal.returns
+returns c = λ first samples h.
+    let k = c.args.k in
+    let mean = class_mean _ (λ (s : Sample). s.without) samples k _ c.mean.result c.requires h.without_is h.count_is c.mean.ensures.value in
+    let mean_with = class_mean _ (λ (s : Sample). s.with) samples k _ c.mean-2.result c.requires h.with_is h.count_is c.mean-2.ensures.value in
+    let mean_perfect = class_mean _ (λ (s : Sample). s.perfect) samples k _ c.mean-3.result c.requires h.perfect_is h.count_is c.mean-3.ensures.value in
+    rw (mean, mean_with, mean_perfect)

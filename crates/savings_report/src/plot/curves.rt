@@ -1,0 +1,102 @@
+//! `Curves`, which gathers one sample after each call.
+ghost use Rattle.std.specs.Prelude.{◌≡◌, ◌<◌, ◌≤◌, ◌^◌, ◌↔◌, ◌∷◌, [], ◌++◌, List, IfOk, IsTrue, codes};
+ghost use Rattle.savings_report.specs.declared.table.samples.Sample.{Sample};
+ghost use Rattle.savings_report.specs.declared.table.samples.Window.{Window};
+ghost use Rattle.savings_report.specs.FigureSamples.{AreFew};
+ghost use Rattle.draw_svg.specs.Begins.{Begins};
+ghost use Rattle.savings_report.specs.Intervals.{IsOf};
+
+use crate::plot::intervals::Intervals;
+use crate::plot::plotted::Plotted;
+use crate::plot::readings::Reading;
+use crate::table::{Sample, Window};
+use draw_svg::Text;
+use std::alloc::{AllocError, Global};
+use std::marker::Model;
+
+/// Four curves over the measured calls. The calls are divided into at most 600 intervals of equal size, but the last
+/// interval may have fewer calls. `Curves` takes one sample after each call. For each curve, an interval keeps the
+/// least and the greatest value.
+#[derive(Drop)]
+pub struct Curves {
+    window: Window,
+    // The number of samples so far.
+    calls: u32,
+    // The least and greatest values of the measured samples, by interval.
+    intervals: Intervals,
+}
+
+impl Model for Curves {
+    ghost use Rattle.std.specs.Prelude.{◌≤◌, take};
+    ghost use Rattle.std.specs.Int.{div_ceil};
+    ghost use Rattle.savings_report.specs.Intervals.{Gathered, IsSound};
+
+    ghost Value = { Gathered };
+
+    ghost view = { λ c. record {
+      window = c.window;
+      calls = c.calls;
+      count = c.intervals.count;
+      width = c.intervals.width;
+      intervals = take (div_ceil c.intervals.count c.intervals.width) c.intervals.list.items;
+    } };
+
+    ghost invariant = { λ c. IsSound c.intervals × (c.intervals.count ≤ c.calls) };
+}
+
+impl Curves {
+    /// Makes curves without calls, and allocates all memory that their samples will use. Returns an error if an
+    /// allocation fails.
+    pub fn new(alloc: Global, window: Window) -> Result<Curves, AllocError>
+        ensures { IfOk result (λ curves. IsOf curves window []) }
+    {
+        Ok(Curves {
+            window,
+            calls: 0,
+            intervals: Intervals::new(alloc)?,
+        })
+    }
+
+    /// Whether `look` was called 2^32 - 1 times. `look` must not be called then.
+    pub fn is_full(&self) -> bool
+        ensures { IsTrue result ↔ 4294967295 ≤ self.now.calls }
+    {
+        self.calls == u32::MAX
+    }
+
+    /// Takes the sample of both heaps after the next call. Only calls in the window are measured. `look` allocates
+    /// nothing.
+    pub fn look(&mut self, sample: &Sample)
+        requires room { self.old.calls < 4294967295 }
+        requires without { AreFew sample.now.without }
+        requires with { AreFew sample.now.with }
+        requires perfect { AreFew sample.now.perfect }
+        requires bytes { sample.now.live_bytes < 2 ^ 40 }
+        ensures { (window : Window) (samples : List Sample) → IsOf self.old window samples
+            → IsOf self.new window (samples ++ sample.now ∷ []) }
+    {
+        self.calls += 1;
+        if self.window.from <= self.calls && self.calls <= self.window.to {
+            self.intervals.add(Reading::of(sample));
+        }
+    }
+
+    /// Returns the plot as an SVG file. Returns an error if an allocation fails.
+    pub fn picture(&self, alloc: Global) -> Result<Vec<u8>, AllocError>
+        ensures { IfOk result (λ file. Begins (codes "<svg") file.items) }
+    {
+        let mut text = Text::new(alloc);
+        self.plotted().draw(&mut text);
+        text.finish()
+    }
+
+    /// Returns the data of the plot.
+    fn plotted(&self) -> Plotted<'_> {
+        Plotted {
+            intervals: self.intervals.used(),
+            width: self.intervals.width,
+            before: self.window.from.saturating_sub(1),
+            count: self.intervals.count,
+        }
+    }
+}

@@ -1,0 +1,13 @@
+pub use Rattle.text_fields.specs.Lines
+pub use Rattle.model_jobs.specs.JobFiles
+pub use Rattle.model_jobs.specs.Jobs
+pub use Rattle.model_words.specs.Commands
+pub mod Draft
+pub mod Faults
+pub mod Job
+pub mod Plan
+pub mod Quick
+pub mod Reading
+pub mod Scripts
+pub mod Taken
+pub mod Takes
