@@ -5,7 +5,7 @@ use Rattle.model_jobs.specs.Jobs.{Job}
 use Rattle.draw_job.specs.Points.{next_shown}
 use Rattle.draw_job.specs.declared.run.Shown.{Shown}
 use Rattle.draw_svg.specs.Begins.{Begins}
-use Rattle.mesh_text.specs.Replay.{HasFound}
+use Rattle.text_job.specs.Read.{HasFound}
 use Rattle.text_devices.specs.declared.faults.ReplayError.{ReplayError}
 use Rattle.text_devices.specs.declared.faults.ReplayError.TheVariants.{Read, Write, Text, Memory}
 

@@ -7,9 +7,9 @@ use crate::phase_at;
 use crate::ranges::{add_phase, phase_place};
 use crate::settings::{meshers_of, pair_of, workers_of};
 use explore_interleavings::{Attempted, StateAt, attempt_at};
-use mesh_text::add_decimal;
 use std::alloc::{AllocError, Global};
 use text_job::Job;
+use text_words::add_decimal;
 
 /// Adds the text about a state in which no move is left: the phase of each mesh and, for each worker that has commands
 /// left, the reason why the worker can't continue.

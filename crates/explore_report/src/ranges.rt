@@ -1,9 +1,9 @@
 //! The text of the phases of a mesh, with consecutive phases as ranges.
 use crate::LastStep;
 use mesh_running::{KINDS, kind_name, place_of};
-use mesh_text::add_decimal;
 use std::alloc::AllocError;
 use std::collections::BTreeSet;
+use text_words::add_decimal;
 
 /// The rank of a phase: phases are ordered as they follow each other in a mesh. Phases after steps have the order of
 /// `KINDS`. The phases of a cancelled mesh come after `Over`.

@@ -5,9 +5,9 @@ ghost use Rattle.explore_report.specs.ToldTexts.{next_text, replies_text, told_l
 
 use crate::outcome_text::add_numbered;
 use explore_interleavings::Told;
-use mesh_text::add_reply;
 use model_words::Reply;
 use std::alloc::AllocError;
+use text_words::add_reply;
 
 /// Adds a line for each worker that has got a reply: ` worker W: ANSWER | ANSWER ..`.
 pub fn add_told(text: &mut Vec<u8>, told: &[Told]) -> Result<(), AllocError>

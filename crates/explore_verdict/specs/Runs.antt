@@ -11,7 +11,7 @@ use Rattle.explore_report.specs.Listings.{ListsAll}
 use Rattle.explore_report.specs.declared.listing.Listing.{Listing}
 use Rattle.explore_report.specs.declared.outcomes.Outcome.{Outcome}
 use Rattle.states_reach.specs.declared.reached.Reached.{Reached}
-use Rattle.mesh_text.specs.Replay.{HasReadJob}
+use Rattle.text_job.specs.Read.{HasReadJob}
 use Rattle.explore_verdict.specs.Expected.{blocks_of}
 use Rattle.explore_verdict.specs.Judged.{AreAsExpected}
 use Rattle.explore_verdict.specs.Never.{IsForbidden}

@@ -9,11 +9,11 @@ use crate::judging::outcome_at;
 use crate::pattern::Pattern;
 use explore_interleavings::{Explorer, Told};
 use explore_report::Listing;
-use mesh_text::add_reply;
 use model_words::Reply;
 use states_reach::{Reached, System};
 use std::alloc::{AllocError, Global};
 use text_fields::lines::is_word;
+use text_words::add_reply;
 
 /// Returns the place, in a listing's outcomes, of the first outcome that matches one of the patterns. `None` if there
 /// is no such outcome.

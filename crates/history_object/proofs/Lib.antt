@@ -14,3 +14,28 @@ pub mod WaysThere
 pub mod Placing
 pub mod Pairs
 pub mod Pairwise
+pub mod Places
+pub mod Events
+pub mod Begin
+pub mod End
+pub mod Followed
+pub mod NumberLists
+pub mod Listed
+pub mod Explained
+pub mod Moved
+pub mod Fronts
+pub mod Unexplained
+pub mod TimedRefuting
+pub mod Stepping
+pub mod OneEffect
+pub mod OrdersKept
+pub mod OrderExplains
+pub mod OrderedFirst
+pub mod OrderedEnd
+pub mod Accessed
+mod Compared
+pub mod Kept
+pub mod Offsets
+mod Overwritten
+pub mod Runs
+pub mod Stored

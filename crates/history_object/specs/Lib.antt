@@ -8,3 +8,11 @@ pub mod Placed
 pub mod Refuted
 pub mod Standings
 pub mod Ways
+pub mod Following
+pub mod OrderedJudges
+pub mod Steps
+pub mod TimedCalls
+pub mod TimedLaws
+pub mod Chunks
+pub mod ObjectBytes
+pub mod Prints

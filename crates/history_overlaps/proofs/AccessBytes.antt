@@ -8,7 +8,7 @@ use Rattle.model_words.specs.declared.commands.Command.TheVariants.{Put, Get, Ad
 use Rattle.model_words.specs.declared.commands.Reply.{Reply}
 use Rattle.model_words.specs.declared.commands.Reply.TheVariants.{Done, Bytes, At}
 use Rattle.model_intervals.specs.Objects.{accessed, ends_past}
-use Rattle.history_memory.specs.ObjectBytes.{accessed_by}
+use Rattle.history_object.specs.ObjectBytes.{accessed_by}
 use Rattle.history_overlaps.specs.Accesses.{access_of}
 
 -- lists of unequal lengths are no equal bytes

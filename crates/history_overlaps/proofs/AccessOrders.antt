@@ -4,11 +4,11 @@ use Rattle.std.specs.List.Sorted.{IsPermutation}
 use Rattle.std.proofs.lemmas.List.Sorted.{IsPermutation-map, IsPermutation-sym}
 use Rattle.model_intervals.specs.Intervals.{Call, RespectsTime}
 use Rattle.model_intervals.specs.Objects.{ExplainsAccesses, accesses_of, bytes_behind, effect_on}
-use Rattle.history_memory.specs.declared.access.Access.{Access}
-use Rattle.history_memory.specs.ObjectBytes.{State, bytes_of, effect, first_state}
-use Rattle.history_memory.proofs.Accessed.{effect_is_access}
-use Rattle.history_memory.proofs.Offsets.{bytes_of-first}
-use Rattle.history_timed.specs.TimedCalls.{ExplainsTimed, Timed, RespectsTime as TimedRespectsTime, state_behind}
+use Rattle.history_object.specs.declared.access.Access.{Access}
+use Rattle.history_object.specs.ObjectBytes.{State, bytes_of, effect, first_state}
+use Rattle.history_object.proofs.Accessed.{effect_is_access}
+use Rattle.history_object.proofs.Offsets.{bytes_of-first}
+use Rattle.history_object.specs.TimedCalls.{ExplainsTimed, Timed, RespectsTime as TimedRespectsTime, state_behind}
 use Rattle.history_overlaps.specs.Accesses.{PlacedCall, access_of, is_access_of, placed_from, timed_accesses, timed_of}
 use Rattle.history_overlaps.proofs.AccessBytes.{same_access}
 use Rattle.history_overlaps.proofs.Mapped.{all_pairs_mapped, all_pairs_unmapped, lifted}

@@ -2,14 +2,14 @@
 use Rattle.std.proofs.Common.{◌≡◌, ◌≢◌, ℕ, ◌<◌, ◌≤◌, ◌↔◌, inl, inr, Bool, true, false, IsTrue, List, Some, None, arith, refl, ap}
 use Rattle.std.proofs.lemmas.Bool.Decides.{eqb_tells}
 use Rattle.history_reading.specs.declared.words.TimedCall.{TimedCall}
-use Rattle.history_memory.specs.ObjectBytes.{State, effect, first_state}
-use Rattle.history_memory.specs.declared.access.Access.{Access}
+use Rattle.history_object.specs.ObjectBytes.{State, effect, first_state}
+use Rattle.history_object.specs.declared.access.Access.{Access}
 use Rattle.history_object.specs.declared.faults.JudgeFault.{JudgeFault}
 use Rattle.history_object.specs.declared.faults.JudgeFault.TheVariants.{Memory, TooMany, TooManyPending}
-use Rattle.history_timed.specs.Following.{HasMoreAtEnd, HasSome, IsOpen, TimedStanding}
-use Rattle.history_timed.specs.OrderedJudges.{IsOrderedJudgeOf}
-use Rattle.history_timed.specs.TimedCalls.{Timed}
-use Rattle.history_timed.specs.declared.ordered.OrderedJudge.{OrderedJudge}
+use Rattle.history_object.specs.Following.{HasMoreAtEnd, HasSome, IsOpen, TimedStanding}
+use Rattle.history_object.specs.OrderedJudges.{IsOrderedJudgeOf}
+use Rattle.history_object.specs.TimedCalls.{Timed}
+use Rattle.history_object.specs.declared.ordered.OrderedJudge.{OrderedJudge}
 use Rattle.history_overlaps.specs.Followed.{AreOf, AreOpenFrom, ArePast, HasStoppedAt, IsFirstOf, IsRefutedAt, IsUpTo, end_of}
 
 -- a judge that has followed accesses up to a moment has followed them up to a later moment

@@ -14,7 +14,7 @@ use Rattle.model_intervals.specs.Intervals.{Call}
 use Rattle.model_intervals.specs.Objects.{Object as AnObject, IsFairNew, object_made}
 use Rattle.model_intervals.specs.OverlappingCalls.{IsAt, IsNew, cell_at, cell_of}
 use Rattle.history_number_set.specs.Ranges.{Has}
-use Rattle.history_timed.specs.Following.{IsOpen}
+use Rattle.history_object.specs.Following.{IsOpen}
 use Rattle.history_overlaps.specs.Accesses.{PlacedCall}
 use Rattle.history_overlaps.specs.Ends.{AreDisjoint, AreEnded, HasEndedIn, IsFirstBefore, IsGone, IsOverlapped, IsRuledOut, Misses, Past}
 use Rattle.history_overlaps.specs.Judges.{AccessJudge, IsJudged, live_of}

@@ -6,13 +6,13 @@ use Rattle.std.proofs.lemmas.Option.{slice_get-map}
 use Rattle.model_intervals.specs.Intervals.{Call}
 use Rattle.model_intervals.specs.Objects.{ExplainsAccesses}
 use Rattle.model_intervals.specs.OverlappingCalls.{IsAt}
-use Rattle.history_memory.specs.declared.access.Access.{Access}
-use Rattle.history_memory.specs.ObjectBytes.{effect, first_state}
-use Rattle.history_timed.specs.Following.{CanBegin, HasSome, IsJudgeOf, IsOpen}
-use Rattle.history_timed.specs.TimedCalls.{ExplainsTimed, Timed}
-use Rattle.history_timed.proofs.End.{open_is_call}
-use Rattle.history_timed.proofs.Explained.{explained}
-use Rattle.history_timed.proofs.Unexplained.{some_is_left}
+use Rattle.history_object.specs.declared.access.Access.{Access}
+use Rattle.history_object.specs.ObjectBytes.{effect, first_state}
+use Rattle.history_object.specs.Following.{CanBegin, HasSome, IsJudgeOf, IsOpen}
+use Rattle.history_object.specs.TimedCalls.{ExplainsTimed, Timed}
+use Rattle.history_object.proofs.End.{open_is_call}
+use Rattle.history_object.proofs.Explained.{explained}
+use Rattle.history_object.proofs.Unexplained.{some_is_left}
 use Rattle.history_overlaps.specs.Accesses.{PlacedCall, is_access_of, placed_from, timed_accesses, timed_of}
 use Rattle.history_overlaps.specs.Judges.{AccessJudge, IsFollowed}
 use Rattle.history_overlaps.specs.Lives.{BeginFrom}

@@ -4,9 +4,9 @@ use Rattle.std.proofs.lemmas.Bool.Decides.{eqb_tells}
 use Rattle.model_intervals.specs.Intervals.{Call}
 use Rattle.model_intervals.specs.Objects.{is_access}
 use Rattle.model_intervals.specs.OverlappingCalls.{IsAt, cell_at}
-use Rattle.history_memory.specs.ObjectBytes.{effect, first_state}
-use Rattle.history_memory.specs.declared.access.Access.{Access as AnAccess}
-use Rattle.history_timed.specs.Following.{IsJudgeOf, IsOpen}
+use Rattle.history_object.specs.ObjectBytes.{effect, first_state}
+use Rattle.history_object.specs.declared.access.Access.{Access as AnAccess}
+use Rattle.history_object.specs.Following.{IsJudgeOf, IsOpen}
 use Rattle.history_overlaps.specs.Accesses.{access_of, is_access_of, timed_accesses}
 use Rattle.history_overlaps.specs.Judges.{AccessJudge, IsFollowed, IsJudged, live_of}
 use Rattle.history_overlaps.specs.LifeSteps.{HasBegun, HasEndedAt}

@@ -3,10 +3,10 @@ use Rattle.std.proofs.Common.{◌≡◌, ℕ, zero, suc, ◌+◌, ◌<◌, ◌�
 use Rattle.std.proofs.lemmas.Bool.Decides.{eqb_tells}
 use Rattle.std.proofs.lemmas.Option.{slice_get-map}
 use Rattle.model_intervals.specs.Intervals.{Call}
-use Rattle.history_memory.specs.declared.access.Access.{Access}
-use Rattle.history_timed.specs.Following.{CanBegin, IsOpen}
-use Rattle.history_timed.specs.TimedCalls.{Timed}
-use Rattle.history_timed.specs.TimedLaws.{AreLater}
+use Rattle.history_object.specs.declared.access.Access.{Access}
+use Rattle.history_object.specs.Following.{CanBegin, IsOpen}
+use Rattle.history_object.specs.TimedCalls.{Timed}
+use Rattle.history_object.specs.TimedLaws.{AreLater}
 use Rattle.history_overlaps.specs.Accesses.{PlacedCall, is_access_of, placed_from, timed_accesses, timed_of}
 use Rattle.history_overlaps.specs.Judges.{AccessJudge}
 use Rattle.history_overlaps.proofs.AccessOrders.{placed_at, tells}

@@ -12,14 +12,14 @@ use Rattle.model_intervals.specs.Objects.{ExplainsAccesses}
 use Rattle.model_intervals.specs.OverlappingCalls.{IsAt}
 use Rattle.history_reading.specs.CallWords.{IsReadCall, plain_call}
 use Rattle.history_reading.specs.declared.words.TimedCall.{TimedCall}
-use Rattle.history_memory.specs.ObjectBytes.{State, effect, first_state}
-use Rattle.history_memory.specs.declared.access.Access.{Access}
-use Rattle.history_timed.specs.Following.{CanBegin, HasSome, IsOpen}
-use Rattle.history_timed.specs.OrderedJudges.{IsOrderedJudgeOf, numbers_of as numbers_in}
-use Rattle.history_timed.specs.TimedCalls.{ExplainsTimed, Timed}
-use Rattle.history_timed.specs.declared.ordered.OrderedJudge.{OrderedJudge}
-use Rattle.history_timed.proofs.End.{open_is_call}
-use Rattle.history_timed.proofs.Unexplained.{some_is_left}
+use Rattle.history_object.specs.ObjectBytes.{State, effect, first_state}
+use Rattle.history_object.specs.declared.access.Access.{Access}
+use Rattle.history_object.specs.Following.{CanBegin, HasSome, IsOpen}
+use Rattle.history_object.specs.OrderedJudges.{IsOrderedJudgeOf, numbers_of as numbers_in}
+use Rattle.history_object.specs.TimedCalls.{ExplainsTimed, Timed}
+use Rattle.history_object.specs.declared.ordered.OrderedJudge.{OrderedJudge}
+use Rattle.history_object.proofs.End.{open_is_call}
+use Rattle.history_object.proofs.Unexplained.{some_is_left}
 use Rattle.history_overlaps.specs.Accesses.{PlacedCall, access_of, is_access_of, placed_from, timed_accesses, timed_of}
 use Rattle.history_overlaps.specs.Followed.{AreOf, AreOpenFrom, ArePast, IsRefutedAt, IsUpTo, end_in, end_of}
 use Rattle.history_overlaps.specs.Orders.{at_places}

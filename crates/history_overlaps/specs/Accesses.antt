@@ -7,9 +7,9 @@ use Rattle.model_words.specs.declared.commands.Reply.TheVariants.{Done, Bytes, A
 use Rattle.model_intervals.specs.Intervals.{Call}
 use Rattle.model_intervals.specs.Objects.{is_access}
 use Rattle.model_intervals.specs.OverlappingCalls.{cell_at}
-use Rattle.history_memory.specs.declared.access.Access.{Access}
-use Rattle.history_memory.specs.declared.access.Access.TheVariants.{Store, Load, Nothing, Elsewhere}
-use Rattle.history_timed.specs.TimedCalls.{Timed}
+use Rattle.history_object.specs.declared.access.Access.{Access}
+use Rattle.history_object.specs.declared.access.Access.TheVariants.{Store, Load, Nothing, Elsewhere}
+use Rattle.history_object.specs.TimedCalls.{Timed}
 
 -- the access that a call was recorded to make to the object at `address`
 abbrev pub access_of : ℕ → Command → Reply → Access

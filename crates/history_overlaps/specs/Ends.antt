@@ -3,7 +3,7 @@ use Rattle.std.specs.Prelude.{◌≡◌, ◌≢◌, ℕ, ◌*◌, ◌%◌, ◌<�
 use Rattle.model_intervals.specs.Intervals.{Call}
 use Rattle.model_intervals.specs.Objects.{Meet}
 use Rattle.model_intervals.specs.OverlappingCalls.{IsAt}
-use Rattle.history_timed.specs.Following.{IsOpen}
+use Rattle.history_object.specs.Following.{IsOpen}
 use Rattle.history_overlaps.specs.Judges.{AccessJudge}
 use Rattle.history_overlaps.specs.LifeSteps.{HasEndedAt}
 use Rattle.history_overlaps.specs.Lives.{CannotBe}

@@ -5,12 +5,12 @@ use Rattle.model_intervals.specs.Objects.{Object, object_made}
 use Rattle.model_intervals.specs.OverlappingCalls.{IsAt}
 use Rattle.history_object.specs.declared.faults.JudgeFault.{JudgeFault}
 use Rattle.history_object.specs.declared.faults.JudgeFault.TheVariants.{Memory, TooMany, TooManyPending}
-use Rattle.history_memory.specs.ObjectBytes.{State, effect, first_state}
-use Rattle.history_memory.specs.declared.access.Access.{Access}
-use Rattle.history_timed.specs.Following.{HasMoreAtEnd, HasSome, IsFull, IsJudgeOf, IsOpen, TimedStanding}
-use Rattle.history_timed.specs.OrderedJudges.{IsOrderedJudgeOf}
-use Rattle.history_timed.specs.TimedCalls.{Timed}
-use Rattle.history_timed.specs.declared.ordered.OrderedJudge.{OrderedJudge}
+use Rattle.history_object.specs.ObjectBytes.{State, effect, first_state}
+use Rattle.history_object.specs.declared.access.Access.{Access}
+use Rattle.history_object.specs.Following.{HasMoreAtEnd, HasSome, IsFull, IsJudgeOf, IsOpen, TimedStanding}
+use Rattle.history_object.specs.OrderedJudges.{IsOrderedJudgeOf}
+use Rattle.history_object.specs.TimedCalls.{Timed}
+use Rattle.history_object.specs.declared.ordered.OrderedJudge.{OrderedJudge}
 use Rattle.history_reading.specs.declared.words.TimedCall.{TimedCall}
 use Rattle.history_overlaps.specs.Accesses.{timed_accesses}
 use Rattle.history_overlaps.specs.OwnOrders.{made_of}

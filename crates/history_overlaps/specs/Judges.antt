@@ -3,9 +3,9 @@ use Rattle.std.specs.Prelude.{◌≡◌, ◌↔◌, ℕ, true, List, [], Option,
 use Rattle.model_intervals.specs.Intervals.{Call}
 use Rattle.model_intervals.specs.Objects.{Object, ExplainsAccesses, IsMadeAt}
 use Rattle.model_intervals.specs.OverlappingCalls.{IsAt}
-use Rattle.history_memory.specs.ObjectBytes.{State, effect, first_state}
-use Rattle.history_memory.specs.declared.access.Access.{Access as AnAccess}
-use Rattle.history_timed.specs.Following.{HasSome, IsJudgeOf, IsOpen, TimedStanding}
+use Rattle.history_object.specs.ObjectBytes.{State, effect, first_state}
+use Rattle.history_object.specs.declared.access.Access.{Access as AnAccess}
+use Rattle.history_object.specs.Following.{HasSome, IsJudgeOf, IsOpen, TimedStanding}
 use Rattle.history_overlaps.specs.Accesses.{is_access_of, placed_from, timed_accesses}
 use Rattle.history_overlaps.specs.Lives.{IsFreed}
 use Rattle.history_overlaps.specs.Queues.{HasEnded, IsWaiting, object_of}

@@ -1,9 +1,9 @@
 -- Accesses to a live object begin and end.
 use Rattle.std.specs.Prelude.{◌≡◌, ◌≢◌, ◌⊎◌, ◌↔◌, ℕ, Bool, true, false, List, [], ◌∷◌, ◌++◌, Some, None, IsTrue}
-use Rattle.history_memory.specs.ObjectBytes.{effect, first_state}
-use Rattle.history_memory.specs.declared.access.Access.{Access as AnAccess}
-use Rattle.history_timed.specs.Following.{CanBegin, HasSome, IsJudgeOf, IsOpen}
-use Rattle.history_timed.specs.TimedCalls.{Timed}
+use Rattle.history_object.specs.ObjectBytes.{effect, first_state}
+use Rattle.history_object.specs.declared.access.Access.{Access as AnAccess}
+use Rattle.history_object.specs.Following.{CanBegin, HasSome, IsJudgeOf, IsOpen}
+use Rattle.history_object.specs.TimedCalls.{Timed}
 use Rattle.history_overlaps.specs.Judges.{AccessJudge}
 use Rattle.history_overlaps.specs.declared.life.AccessEnd.{AccessEnd}
 use Rattle.history_overlaps.specs.declared.life.AccessEnd.TheVariants.{Explained, Unexplained}

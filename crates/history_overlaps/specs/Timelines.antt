@@ -2,7 +2,7 @@
 use Rattle.std.specs.Prelude.{◌≡◌, ◌≢◌, ◌⊎◌, ℕ, ◌<◌, ◌≤◌, List, Option, Some, None, length}
 use Rattle.model_intervals.specs.Intervals.{Call}
 use Rattle.model_intervals.specs.OverlappingCalls.{IsAt}
-use Rattle.history_timed.specs.Following.{IsOpen}
+use Rattle.history_object.specs.Following.{IsOpen}
 use Rattle.history_overlaps.specs.Judges.{AccessJudge, Judges, live_of}
 use Rattle.history_overlaps.specs.declared.life.Life.{Life}
 use Rattle.history_overlaps.specs.Lives.{Lives}

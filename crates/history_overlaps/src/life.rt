@@ -2,13 +2,11 @@
 ghost use Rattle.std.specs.Prelude.{◌≡◌, IfOk, IfSome, IsNone, OnOk, Some};
 ghost use Rattle.history_overlaps.specs.Judges.{AccessJudge};
 ghost use Rattle.history_overlaps.specs.LifeSteps.{HasBegun, HasEndedAt, HasJudge, is_explained};
-ghost use Rattle.history_timed.specs.Following.{IsOpen};
+ghost use Rattle.history_object.specs.Following.{IsOpen};
 
 use crate::objects::NewObject;
 use crate::possible::{Unexplained, unexplained_access};
-use history_memory::{Access, ObjectAccesses, ObjectBytes};
-use history_object::JudgeFault;
-use history_timed::TimedJudge;
+use history_object::{Access, JudgeFault, ObjectAccesses, ObjectBytes, TimedJudge};
 use std::alloc::{AllocError, Global};
 
 /// A live object, with the judge of its accesses if an access has begun.

@@ -4,17 +4,15 @@ ghost use Rattle.std.specs.List.{All};
 ghost use Rattle.model_intervals.specs.Intervals.{Call};
 ghost use Rattle.model_intervals.specs.Objects.{ExplainsAccesses};
 ghost use Rattle.history_reading.specs.CallWords.{IsReadCall, plain_call};
-ghost use Rattle.history_memory.specs.declared.access.Access.{Access};
-ghost use Rattle.history_timed.specs.TimedCalls.{Timed};
+ghost use Rattle.history_object.specs.declared.access.Access.{Access};
+ghost use Rattle.history_object.specs.TimedCalls.{Timed};
 ghost use Rattle.history_overlaps.specs.Followed.{AreOf, AreOpenFrom, HasStoppedAt, IsFirstOf, IsRefutedAt, IsStoppedFor, IsUpTo, end_of, sooner};
 ghost use Rattle.history_overlaps.specs.OwnOrders.{BeginInOrder, IsOwnOrder, numbers_of};
 
 use crate::accesses::Made;
 use crate::begins::access_of;
-use history_memory::{ObjectAccesses, ObjectBytes};
-use history_object::JudgeFault;
+use history_object::{JudgeFault, ObjectAccesses, ObjectBytes, OrderedJudge};
 use history_reading::TimedCall;
-use history_timed::OrderedJudge;
 use std::alloc::Global;
 
 /// A moment after the end of every call: 2^64, because ends have 64 bits.

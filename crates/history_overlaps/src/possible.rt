@@ -2,8 +2,7 @@
 ghost use Rattle.std.specs.Prelude.{◌≤◌, length};
 
 use arrayvec::ArrayVec;
-use history_memory::{Access, ObjectAccesses, ObjectBytes};
-use history_object::{Configuration, Refutation};
+use history_object::{Access, Configuration, ObjectAccesses, ObjectBytes, Refutation};
 use history_reading::RecordedReply;
 use model_words::{MAX_BYTES, Refusal};
 use states_pool::Pool;

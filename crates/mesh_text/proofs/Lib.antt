@@ -1,8 +1,10 @@
 pub mod AnswerLines
+pub mod HistoryParts
 pub mod LeftJournals
 pub mod LineTexts
 pub mod MesherCalls
-pub mod Pieces
+pub mod PartTexts
 pub mod PlanLines
 pub mod PlayEnds
+pub mod RecordedTexts
 pub mod WorkerTurns

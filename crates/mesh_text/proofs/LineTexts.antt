@@ -6,7 +6,7 @@ use Rattle.model_jobs.specs.Jobs.{Answer, Job, Next, State}
 use Rattle.model_jobs.specs.Texts.{answer_text}
 use Rattle.model_words.specs.declared.refusals.Refusal.{Refusal}
 use Rattle.mesh_mutator.specs.Book.{Book}
-use Rattle.text_spelling.specs.Answers.{count_told, counted_text}
+use Rattle.mesh_text.specs.Answers.{count_told, counted_text}
 use Rattle.mesh_text.specs.Turns.{IsAt, IsNextAt, IsTold}
 
 -- an answer whose text was added is told

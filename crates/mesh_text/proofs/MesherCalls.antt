@@ -12,7 +12,7 @@ use Rattle.mesh_mutator.specs.Book.{Book, table_of_book}
 use Rattle.mesh_mutator.specs.Mesher.{KeepsBook}
 use Rattle.mesh_steps.specs.HeapMeshes.{IsAnswered, IsStepMade}
 use Rattle.model_words.specs.declared.answers.StepDone.{StepDone}
-use Rattle.text_spelling.specs.Answers.{count_told, step_told}
+use Rattle.mesh_text.specs.Answers.{count_told, step_told}
 use Rattle.mesh_steps.specs.Heap.{arena_of}
 use Rattle.mesh_page_heap.specs.PageHeap.{counts_told}
 use Rattle.mesh_page_heap.specs.declared.answers.Report.{Report}

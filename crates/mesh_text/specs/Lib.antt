@@ -1,4 +1,9 @@
+pub mod Answers
+pub mod Histories
+pub mod HistoryRows
 pub mod Recorded
+pub mod RecordingRows
+pub mod Recordings
 pub mod Replay
 pub mod Turns
 pub use Rattle.text_job.specs.Job

@@ -3,8 +3,9 @@ use Rattle.std.specs.Prelude.{ℕ, List, Option}
 use Rattle.std.specs.Io.KnownBytes.{Appends, Keeps}
 use Rattle.model_memory.specs.Plain.{Entry}
 use Rattle.model_jobs.specs.Jobs.{Job, initial_state, state_after}
-use Rattle.text_spelling.specs.Recordings.{recorded_text}
-use Rattle.mesh_text.specs.Replay.{HasFound, HasPlayed}
+use Rattle.mesh_text.specs.Recordings.{recorded_text}
+use Rattle.text_job.specs.Read.{HasFound}
+use Rattle.mesh_text.specs.Replay.{HasPlayed}
 use Rattle.text_devices.specs.Transfer.{AppendsBeginning}
 use Rattle.text_devices.specs.declared.faults.ReplayError.{ReplayError}
 use Rattle.text_devices.specs.declared.faults.ReplayError.TheVariants.{Read, Write, Text, Memory}

@@ -3,7 +3,7 @@ ghost use Rattle.std.specs.Prelude.{◌≡◌, IfOk};
 ghost use Rattle.model_jobs.specs.Jobs.{PagesMeshed, PairsFound, StepsLeft, busy_in, counted, step_answered, told};
 ghost use Rattle.model_heap.specs.Mesh.{begin, cancel, first_mesh, mesh_whole, step};
 ghost use Rattle.model_search.specs.Search.{search, view_of};
-ghost use Rattle.text_spelling.specs.Answers.{count_told, step_told};
+ghost use Rattle.mesh_text.specs.Answers.{count_told, step_told};
 ghost use Rattle.mesh_text.specs.Turns.{IsCall};
 
 use mesh_mutator::Book;

@@ -1,18 +1,17 @@
 //! The replay that writes a recorded history instead of the answers.
 ghost use Rattle.std.specs.Prelude.{◌≡◌, ◌⊎◌, false, true, length, IfOk, IfErr, OnOk};
 ghost use Rattle.std.specs.Io.KnownBytes.{Appends, Keeps};
-ghost use Rattle.text_spelling.specs.Recordings.{recorded_text};
+ghost use Rattle.mesh_text.specs.Recordings.{recorded_text};
 ghost use Rattle.mesh_text.specs.Recorded.{HasReplayedRecorded, HasStoppedRecorded, journal_of};
 ghost use Rattle.text_devices.specs.Transfer.{AppendsBeginning};
 ghost use Rattle.mesh_text.specs.Turns.{StandsBehind};
 ghost use Rattle.text_devices.specs.declared.faults.ReplayError.{ReplayError};
 
-use crate::reading::read_job;
+use crate::recordings::recorded_journal;
 use crate::turns::Turns;
 use std::alloc::{AllocError, Global};
 use text_devices::{ReplayError, Sink, Source, write_lines};
-use text_job::Job;
-use text_spelling::recorded_journal;
+use text_job::{Job, read_job};
 
 /// Replays the job file that the input contains, and writes the recorded history of its journal instead of the answers.
 ///

@@ -7,11 +7,10 @@ ghost use Rattle.mesh_text.specs.Replay.{HasReplayed, HasStopped};
 ghost use Rattle.text_devices.specs.Transfer.{AppendsBeginning};
 ghost use Rattle.mesh_text.specs.Turns.{AppendsLines, IsAt};
 
-use crate::reading::read_job;
 use crate::turns::Turns;
 use std::alloc::Global;
 use text_devices::{ReplayError, Sink, Source, write_lines};
-use text_job::Job;
+use text_job::{Job, read_job};
 
 /// Collected answer lines are written to the output once they have at least this number of bytes, and at the end of the
 /// plan.

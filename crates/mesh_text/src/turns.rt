@@ -7,13 +7,13 @@ ghost use Rattle.text_job.specs.Plan.{line_of};
 ghost use Rattle.model_jobs.specs.Texts.{ended};
 ghost use Rattle.mesh_text.specs.Turns.{IsAt, IsTold, StandsBehind, book_of, lines_up_to, places_of, worker_count};
 
+use crate::answers::{add_counted, add_found, add_report, add_step};
 use crate::mesher::{begin, cancel_first, pair, step_first, whole};
 use mesh_mutator::{Attempt, Book};
 use mesh_steps::Heap;
 use model_words::Command;
 use std::alloc::{AllocError, Global};
 use text_job::{Job, PlanLine, Script};
-use text_spelling::{add_counted, add_found, add_report, add_step};
 use text_words::add_reply;
 
 /// The heap of a job with its root cells and its journal, and each worker's place in its script.

@@ -21,9 +21,9 @@ use Rattle.mesh_shared.specs.Runs.{HasRun}
 use Rattle.mesh_shared.specs.declared.plan.MeshPlan.{MeshPlan}
 use Rattle.mesh_shared.specs.declared.stops.RunError.{RunError}
 use Rattle.mesh_shared.specs.declared.stops.RunError.TheVariants.{Memory as RunMemory, Thread as RunThread, History, Finish}
-use Rattle.text_spelling.specs.Histories.{history_text}
-use Rattle.text_spelling.specs.Recordings.{recorded_text}
-use Rattle.mesh_text.specs.Replay.{HasFound, HasReadJob}
+use Rattle.mesh_text.specs.Histories.{history_text}
+use Rattle.mesh_text.specs.Recordings.{recorded_text}
+use Rattle.text_job.specs.Read.{HasFound, HasReadJob}
 use Rattle.text_devices.specs.Transfer.{AppendsBeginning}
 use Rattle.text_devices.specs.declared.faults.ReplayError.TheVariants.{Read, Write, Text, Memory as NoMemory}
 

@@ -12,9 +12,9 @@ use Rattle.model_heap.specs.Mesh.{mesh_of_class, mesh_whole}
 use Rattle.model_heap.specs.Sound.{IsSound}
 use Rattle.model_heap.specs.Table.{Counted, Group, Placed, Slot, Table, empty_table, object_count, place_new, sweep, without_object}
 use Rattle.model_search.specs.Search.{Pairing, View, search, view_of}
-use Rattle.savings_placement.specs.ClassCounts.{class_objects}
-use Rattle.savings_placement.specs.Placement.{supply}
-use Rattle.savings_placement.specs.Sweeps.{sweep_each, swept, table_after}
+use Rattle.savings_replay.specs.ClassCounts.{class_objects}
+use Rattle.savings_replay.specs.Placement.{supply}
+use Rattle.savings_replay.specs.Sweeps.{sweep_each, swept, table_after}
 use Rattle.rand_core.specs.Steps.{first_words}
 use Rattle.rand_xoshiro.specs.Xoshiro256.{plus_plus}
 use Rattle.savings_replay.proofs.ObjectCounts.{but, free_count, mesh_count, new_count, new_one, swept_count}

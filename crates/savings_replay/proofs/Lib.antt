@@ -6,3 +6,17 @@ pub mod ObjectCounts
 pub mod PairCounts
 pub mod Pairs
 pub mod TakenCalls
+pub mod AddedSpans
+pub mod ClassBounds
+pub mod ClassChanges
+pub mod ClassCounts
+pub mod ClassLaws
+pub mod FilledGroups
+pub mod Freed
+pub mod Kept
+pub mod MergedRecords
+pub mod Placed
+pub mod Room
+pub mod SlotRecords
+pub mod Swept
+pub mod WholeMeshes

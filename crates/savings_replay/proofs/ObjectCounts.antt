@@ -14,8 +14,8 @@ use Rattle.model_heap.proofs.TableChanges.{differ}
 use Rattle.model_heap.specs.Mesh.{do_overlap, either_slot, merged, merged_into, mesh_of_class, mesh_whole, united}
 use Rattle.model_heap.specs.Sound.{AscendBetween, IsSound, IsSoundGroup}
 use Rattle.model_heap.specs.Table.{Counted, Group, Placed, Slot, Table, changed_at, emptied_of, first_member, free_from, fresh_group, group_of, group_without, has_number, object_count, picked_slot, place_new, placed_in, with_object_in, with_span, without_object}
-use Rattle.savings_placement.proofs.FilledGroups.{has_object, swept_filled}
-use Rattle.savings_placement.specs.Sweeps.{swept}
+use Rattle.savings_replay.proofs.FilledGroups.{has_object, swept_filled}
+use Rattle.savings_replay.specs.Sweeps.{swept}
 use Rattle.savings_replay.specs.Alike.{Test, count_in, objects_where, passes}
 
 -- a count as a sum

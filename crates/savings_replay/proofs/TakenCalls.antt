@@ -4,7 +4,7 @@ use Rattle.std.specs.Prelude.{sum_by}
 use Rattle.std.specs.Map.{lookup}
 use Rattle.model_heap.specs.Table.{Placed, Table, object_count, place_new}
 use Rattle.model_words.specs.declared.refusals.Refusal.{Refusal}
-use Rattle.savings_placement.specs.Placement.{table_of}
+use Rattle.savings_replay.specs.Placement.{table_of}
 use Rattle.savings_replay.proofs.FollowsLemmas.{Agree, IsHeld, apart_large, apart_small, apart_without, at_other, at_same, below_large, below_small, held_at, held_none, held_some, kept_at, kept_on}
 use Rattle.savings_replay.specs.Counts.{alias_counted, large_free_counted, large_new_counted, small_free_counted, small_new_counted}
 use Rattle.savings_replay.specs.Followed.{Followed, Large as LiveLarge, Live, NoAddresses as HasNoAddresses, Small as LiveSmall, after_free, aliased, freed, is_due, large_freed, made, object_in, small_freed, small_made, small_placed, with_at, without_serial}

@@ -2,7 +2,7 @@
 use Rattle.std.specs.Prelude.{◌≡◌, ℕ, Bool, false, List, ◌++◌, Option, Some, None, count_by, sum_by}
 use Rattle.model_heap.specs.Sound.{IsSound}
 use Rattle.model_heap.specs.Table.{Group, Slot, Table}
-use Rattle.savings_placement.specs.ClassCounts.{class_objects}
+use Rattle.savings_replay.specs.ClassCounts.{class_objects}
 use Rattle.savings_replay.specs.Followed.{Followed, Goes, Outcome, run, run_on, start}
 use Rattle.savings_replay.specs.Meshing.{Heaps}
 use Rattle.savings_replay.specs.declared.calls.Call.{Call}

@@ -3,7 +3,7 @@ use Rattle.std.specs.Prelude.{ℕ, ◌+◌, ◌%◌, Bool, ◌&&◌, if◌then�
 use Rattle.model_heap.specs.Table.{Placed, Table, empty_table, object_count, place_new, without_object}
 use Rattle.model_words.specs.Classes.{class_for}
 use Rattle.model_words.specs.declared.refusals.Refusal.{Refusal}
-use Rattle.savings_placement.specs.Placement.{supply}
+use Rattle.savings_replay.specs.Placement.{supply}
 use Rattle.savings_replay.specs.Counts.{alias_counted, large_free_counted, large_new_counted, no_count, no_mesh, small_free_counted, small_new_counted}
 use Rattle.savings_replay.specs.Meshing.{Heaps, after_round}
 use Rattle.savings_replay.specs.Words.{after_new_word, new_seed, new_word, shuffle_seed, state_of}

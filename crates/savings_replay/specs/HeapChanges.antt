@@ -1,7 +1,7 @@
 -- Both heaps of the code, and how the code's calls change them.
 use Rattle.std.specs.Prelude.{◌≡◌, ◌≢◌, ℕ, ◌+◌, ◌-◌, ◌^◌, ◌<◌, ◌≤◌, ◌⊎◌, ◌&&◌, Bool, Ok, is_ok, Some}
 use Rattle.model_heap.specs.Table.{place_new}
-use Rattle.savings_placement.specs.Placement.{table_of}
+use Rattle.savings_replay.specs.Placement.{table_of}
 use Rattle.mesh_spans.specs.Index.{record_at}
 use Rattle.savings_replay.specs.Followed.{without_serial}
 use Rattle.savings_replay.specs.Meshing.{Heaps}

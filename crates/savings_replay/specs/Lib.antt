@@ -1,3 +1,11 @@
+pub use Rattle.mesh_spans.specs.Index
+pub mod ClassCounts
+pub mod ClassLaws
+pub mod Growth
+pub mod Meshes
+pub mod Placement
+pub mod Records
+pub mod Sweeps
 pub mod Alike
 pub mod Calls
 pub mod Counts

@@ -1,7 +1,7 @@
 -- The meshing heap of the code.
 use Rattle.std.specs.Prelude.{◌≡◌, ℕ, ◌+◌, ◌*◌, ◌<◌, ◌^◌}
-use Rattle.savings_placement.specs.Placement.{table_of}
-use Rattle.savings_placement.specs.Records.{KeepsRecords}
+use Rattle.savings_replay.specs.Placement.{table_of}
+use Rattle.savings_replay.specs.Records.{KeepsRecords}
 use Rattle.savings_replay.specs.Meshing.{Meshing}
 use Rattle.savings_replay.specs.declared.counts.MeshCounts.{MeshCounts}
 use Rattle.savings_replay.specs.declared.meshing.Mesher.{Mesher}

@@ -5,7 +5,7 @@ use Rattle.model_heap.specs.Table.{Counted, Table, group_of}
 use Rattle.model_search.specs.Search.{Pairing, search, view_of}
 use Rattle.model_words.specs.Classes.{table}
 use Rattle.model_words.specs.declared.refusals.Refusal.{Refusal}
-use Rattle.savings_placement.specs.Sweeps.{swept}
+use Rattle.savings_replay.specs.Sweeps.{swept}
 use Rattle.mesh_spans.specs.Counts.{byte_count}
 use Rattle.rand_core.specs.Steps.{first_words}
 use Rattle.rand_xoshiro.specs.Xoshiro256.{plus_plus}

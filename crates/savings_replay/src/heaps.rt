@@ -1,8 +1,8 @@
 //! `TwoHeaps`: the heap that doesn't mesh and the heap that does.
 ghost use Rattle.std.specs.Prelude.{◌≡◌, ℕ, ◌+◌, ◌<◌, ◌-◌, ◌^◌, ◌≤◌, IfOk, OnOk, is_ok, true, false, if◌then◌else◌, sum_by, IsTrue, Some};
 ghost use Rattle.model_heap.specs.Table.{object_count, place_new};
-ghost use Rattle.savings_placement.specs.Placement.{IsFreed, IsMade, table_of};
-ghost use Rattle.savings_placement.specs.Records.{KeepsRecords};
+ghost use Rattle.savings_replay.specs.Placement.{IsFreed, IsMade, table_of};
+ghost use Rattle.savings_replay.specs.Records.{KeepsRecords};
 ghost use Rattle.mesh_spans.specs.Index.{record_at};
 ghost use Rattle.savings_replay.specs.Followed.{after_free, empty_heaps, without_serial};
 ghost use Rattle.savings_replay.specs.HeapChanges.{AreKept, AreKeptBut, has_room, HaveNoSerial, HaveSerial, IsAt, IsFreedFrom, IsMadeIn, heaps_of};
@@ -12,8 +12,10 @@ ghost use Rattle.savings_replay.specs.Mesher.{Fits};
 use crate::counts::MeshCounts;
 use crate::meshing::Mesher;
 use crate::objects::Places;
+use crate::placement::Placement;
 use crate::words::seeded;
-use savings_placement::{NewFault, Placement, Slot, Span};
+use mesh_spans::{Slot, Span};
+use model_words::NewFault;
 use std::alloc::{AllocError, Global};
 
 /// Two heaps: one that doesn't mesh, and one that does.

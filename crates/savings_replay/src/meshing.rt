@@ -1,16 +1,16 @@
 //! The heap that meshes.
 ghost use Rattle.std.specs.Prelude.{◌≡◌, ◌+◌, ◌*◌, ◌<◌, ◌^◌, IfOk, OnOk, length, map};
-ghost use Rattle.savings_placement.specs.Records.{KeepsRecords};
+ghost use Rattle.savings_replay.specs.Records.{KeepsRecords};
 ghost use Rattle.mesh_search.specs.Pairs.{pairing};
 ghost use Rattle.savings_replay.specs.Mesher.{Fits, IsAsBefore, meshing_of};
 ghost use Rattle.savings_replay.specs.Meshing.{IsAfterPairs, class_meshed, class_sizes, classes_meshed, pair_meshed, pairs_meshed};
 
 use crate::counts::MeshCounts;
+use crate::placement::Placement;
 use crate::words::draw;
 use mesh_class::{Class, all_classes};
 use mesh_search::search_one;
 use rand_xoshiro::Xoshiro256PlusPlus;
-use savings_placement::Placement;
 use std::alloc::{AllocError, Global};
 
 /// The heap that meshes, the counts of its meshes, and the generator of the words for shuffles.

@@ -3,7 +3,7 @@ ghost use Rattle.std.specs.Prelude.{◌≡◌, ℕ, Some, None, IfNone, IfOk, If
 ghost use Rattle.savings_replay.specs.Objects.{IsAliased, IsTakenOut, cell_of, entry_of, number_in};
 ghost use Rattle.savings_replay.specs.Followed.{with_at};
 
-use savings_placement::{Slot, Span};
+use mesh_spans::{Slot, Span};
 use std::alloc::{AllocError, Global};
 use std::collections::HashMap;
 

@@ -1,7 +1,7 @@
 //! `Savings`: the replay on both heaps.
 ghost use Rattle.std.specs.Prelude.{◌≡◌, ◌≢◌, ℕ, ◌+◌, ◌≤◌, ◌<◌, ◌-◌, ◌^◌, ◌↔◌, false, None, Some, IfOk, IfSome, IsTrue};
 ghost use Rattle.model_words.specs.Classes.{class_for};
-ghost use Rattle.savings_placement.specs.Placement.{table_of};
+ghost use Rattle.savings_replay.specs.Placement.{table_of};
 ghost use Rattle.savings_replay.specs.Followed.{Followed, aliased, freed, made, object_in, start, step};
 ghost use Rattle.savings_replay.specs.Follows.{Follows, HasNumbers, IsTaken};
 ghost use Rattle.savings_replay.specs.declared.taken.Taken.TheVariants.{Made};
@@ -10,12 +10,12 @@ use crate::calls::Call;
 use crate::counts::{Counts, MeshCounts};
 use crate::heaps::TwoHeaps;
 use crate::objects::{Object, Objects};
+use crate::placement::Placement;
 use crate::settings::Settings;
 use crate::taken::Taken;
 use crate::words::{draw_new, seeded};
 use mesh_class::{Class, class_of};
 use rand_xoshiro::Xoshiro256PlusPlus;
-use savings_placement::Placement;
 use std::alloc::{AllocError, Global};
 use std::marker::Model;
 

@@ -7,8 +7,8 @@ use Rattle.std.specs.List.{All}
 use Rattle.model_heap.specs.Table.{Table}
 use Rattle.model_words.specs.Classes.{Row, table}
 use Rattle.savings_report.specs.FigureSamples.{AreFew, of_class}
-use Rattle.savings_placement.specs.ClassCounts.{class_objects, class_pages}
-use Rattle.savings_placement.specs.ClassLaws.{FitsPages, ObjectsFitPages, pages_needed}
+use Rattle.savings_replay.specs.ClassCounts.{class_objects, class_pages}
+use Rattle.savings_replay.specs.ClassLaws.{FitsPages, ObjectsFitPages, pages_needed}
 use Rattle.savings_replay.specs.Alike.{ClassesAreAlike, HeapsAreSound}
 use Rattle.savings_report.specs.Laws.{PerfectIsLeast}
 use Rattle.savings_report.specs.Samples.{perfect_pages, physical_pages, sample_of}

@@ -4,8 +4,8 @@ use Rattle.model_heap.specs.Table.{Table}
 use Rattle.model_words.specs.Classes.{table}
 use Rattle.savings_report.specs.declared.table.samples.Counts.{Counts}
 use Rattle.savings_report.specs.declared.table.samples.Sample.{Sample}
-use Rattle.savings_placement.specs.ClassCounts.{class_objects, class_pages}
-use Rattle.savings_placement.specs.ClassLaws.{pages_needed}
+use Rattle.savings_replay.specs.ClassCounts.{class_objects, class_pages}
+use Rattle.savings_replay.specs.ClassLaws.{pages_needed}
 use Rattle.savings_replay.specs.Followed.{Followed}
 use Rattle.mesh_spans.specs.Counts.{byte_count}
 

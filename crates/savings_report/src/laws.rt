@@ -1,7 +1,7 @@
 //! Lemmas about every sample of a run. Each is the contract of a function that does nothing.
 ghost use Rattle.savings_report.specs.Laws.{PerfectFiguresAreLeast, PerfectIsLeast};
 
-use savings_placement::class_laws::objects_fit_pages;
+use savings_replay::class_laws::objects_fit_pages;
 use savings_replay::laws::{heaps_are_alike, heaps_are_sound};
 
 /// After any calls, the pages of each class with perfect packing are at most the pages of that class in either heap.

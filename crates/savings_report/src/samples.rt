@@ -1,8 +1,8 @@
 //! The sample of both heaps after a call, and the counts of a run.
 ghost use Rattle.std.specs.Prelude.{◌≡◌, ◌<◌, ◌≤◌, ◌^◌};
 ghost use Rattle.savings_report.specs.FigureSamples.{AreFew};
-ghost use Rattle.savings_placement.specs.ClassLaws.{FitsPages, pages_needed};
-ghost use Rattle.savings_placement.specs.Placement.{table_of};
+ghost use Rattle.savings_replay.specs.ClassLaws.{FitsPages, pages_needed};
+ghost use Rattle.savings_replay.specs.Placement.{table_of};
 ghost use Rattle.savings_replay.specs.Followed.{Followed};
 ghost use Rattle.savings_replay.specs.Follows.{Follows};
 ghost use Rattle.savings_report.specs.Samples.{counts_of, perfect_pages, sample_of};

@@ -1,8 +1,10 @@
 pub mod FileEnds
+pub mod JobTexts
 pub mod LineTakes
 pub mod ManyFields
 pub mod PackedScripts
 pub mod Pairs
+pub mod Pieces
 pub mod PlanReadings
 pub mod QuickLines
 pub mod ScriptLines

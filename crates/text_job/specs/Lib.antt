@@ -5,8 +5,10 @@ pub use Rattle.model_words.specs.Commands
 pub mod Draft
 pub mod Faults
 pub mod Job
+pub mod JobTexts
 pub mod Plan
 pub mod Quick
+pub mod Read
 pub mod Reading
 pub mod Scripts
 pub mod Taken

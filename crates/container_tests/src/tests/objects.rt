@@ -1,7 +1,6 @@
 //! The bytes of objects, and a judge of accesses to them.
 use arrayvec::ArrayVec;
-use history_memory::{Access, ObjectAccesses, ObjectBytes};
-use history_object::{Calls, Judge};
+use history_object::{Access, Calls, Judge, ObjectAccesses, ObjectBytes};
 use model_words::MAX_BYTES;
 use states_pool::Value;
 use std::alloc::{AllocError, Global};

@@ -1,6 +1,6 @@
 //! The timed judge of a word that is stored and loaded. The expected values were worked out by hand.
 use crate::tests::words::{Access, Register, Word};
-use history_timed::TimedJudge;
+use history_object::TimedJudge;
 use std::alloc::{AllocError, Global};
 
 /// The begin of a store or of a load, with the call's number and value, or the end of the call with this number.

@@ -1,6 +1,6 @@
 use Rattle.std.proofs.Common.{◌<◌, arith, ap, subst, sym, List, Option, Some, None, Err, ℕ}
 use Rattle.history_object.specs.declared.faults.JudgeFault.{JudgeFault}
-use Rattle.history_memory.specs.ObjectBytes.{first_state}
+use Rattle.history_object.specs.ObjectBytes.{first_state}
 use Rattle.history_overlaps.specs.Followed.{IsFirstOf}
 use Rattle.text_devices.proofs.LineSteps.{handed_on}
 use Rattle.history_overlaps.proofs.EndBefore.{ended_first, not_both, open_from_first, open_from_none, refuted_first, stopped_at_end}

@@ -1,6 +1,6 @@
 use Rattle.std.proofs.Common.{ℕ, ◌≤◌, List}
-use Rattle.history_memory.specs.declared.access.Access.{Access}
-use Rattle.history_timed.specs.TimedCalls.{Timed}
+use Rattle.history_object.specs.declared.access.Access.{Access}
+use Rattle.history_object.specs.TimedCalls.{Timed}
 use Rattle.history_overlaps.specs.Followed.{AreOf, IsUpTo}
 use Rattle.history_overlaps.proofs.OpenCalls.{open_count}
 use Rattle.history_overlaps.proofs.own_orders.end_before.Given as goal

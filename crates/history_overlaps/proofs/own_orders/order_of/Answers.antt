@@ -2,8 +2,8 @@ use Rattle.std.proofs.Common.{◌≤◌, arith, length, map, subst, sym, take, L
 use Rattle.history_reading.specs.CallWords.{plain_call}
 use Rattle.history_object.specs.declared.faults.JudgeFault.{JudgeFault}
 use Rattle.text_devices.proofs.LineSteps.{handed_on}
-use Rattle.history_memory.specs.ObjectBytes.{State, effect, first_state}
-use Rattle.history_timed.specs.OrderedJudges.{IsOrderedJudgeOf}
+use Rattle.history_object.specs.ObjectBytes.{State, effect, first_state}
+use Rattle.history_object.specs.OrderedJudges.{IsOrderedJudgeOf}
 use Rattle.history_overlaps.specs.Accesses.{timed_accesses}
 use Rattle.history_overlaps.specs.Followed.{HasStoppedAt, IsStoppedFor}
 use Rattle.history_overlaps.proofs.OwnOrder.{all_followed, are_of, begins_later, begun_on, both_first, ended_refuted, ended_so_far, first_followed, found_order, is_fresh, next_access, next_below, read_at, refuted_at_last, refuted_so_far}

@@ -1,7 +1,7 @@
 use Rattle.std.proofs.Common.{◌∙◌, sym}
 use Rattle.model_heap.specs.Mesh.{cancel, mesh_in}
 use Rattle.model_jobs.specs.Jobs.{StepsLeft}
-use Rattle.text_spelling.specs.Answers.{count_told}
+use Rattle.mesh_text.specs.Answers.{count_told}
 use Rattle.mesh_text.proofs.MesherCalls.{counted_call, first_cancelled, none_cancelled}
 use Rattle.mesh_text.proofs.mesher.cancel_first.Goals as goal
 

@@ -1,5 +1,5 @@
 use Rattle.std.proofs.Common.{◌∙◌, sym}
-use Rattle.text_spelling.specs.Answers.{step_told}
+use Rattle.mesh_text.specs.Answers.{step_told}
 use Rattle.mesh_text.proofs.MesherCalls.{first_stepped, none_stepped, stepped_call}
 use Rattle.mesh_text.proofs.mesher.step_first.Goals as goal
 

@@ -2,7 +2,7 @@ use Rattle.std.proofs.Common.{◌∙◌, List, ap}
 use Rattle.std.proofs.lemmas.Result.{IfOk-weaker}
 use Rattle.model_memory.specs.Plain.{Entry}
 use Rattle.mesh_mutator.specs.Book.{Book}
-use Rattle.text_spelling.specs.Recordings.{recorded_text}
+use Rattle.mesh_text.specs.Recordings.{recorded_text}
 use Rattle.mesh_text.proofs.LeftJournals.{journal_is}
 use Rattle.mesh_text.proofs.recorded.recorded_play.Goals as goal
 

@@ -1,4 +1,4 @@
-use Rattle.savings_placement.specs.Placement.{table_of}
+use Rattle.savings_replay.specs.Placement.{table_of}
 use Rattle.savings_report.proofs.SampleTables.{are_counts}
 use Rattle.savings_report.proofs.samples.counts_of.Goals as goal
 

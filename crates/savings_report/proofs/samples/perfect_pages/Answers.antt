@@ -1,7 +1,7 @@
 use Rattle.std.proofs.Common.{◌≡◌, ◌<◌, ◌≤◌, slice_index, ap, length, length-set, arith, rules, ◌∙◌}
 use Rattle.std.proofs.lemmas.Grind.{get_or_default_zero}
-use Rattle.savings_placement.specs.ClassLaws.{pages_needed}
-use Rattle.savings_placement.specs.Placement.{table_of}
+use Rattle.savings_replay.specs.ClassLaws.{pages_needed}
+use Rattle.savings_replay.specs.Placement.{table_of}
 use Rattle.savings_report.proofs.PerfectPages.{are_perfect, next_needed}
 use Rattle.savings_report.proofs.samples.perfect_pages.Goals as goal
 

@@ -1,5 +1,5 @@
 use Rattle.std.proofs.Common.{◌≡◌, ◌<◌, ℕ, length, slice_index}
-use Rattle.savings_placement.specs.ClassLaws.{pages_needed}
+use Rattle.savings_replay.specs.ClassLaws.{pages_needed}
 use Rattle.savings_report.proofs.samples.perfect_pages.Given as goal
 
 abbrev pub invariant-loop-k : goal.invariant-loop-k

@@ -1,7 +1,7 @@
 use Rattle.std.proofs.Common.{◌≤◌, List, ℕ, sym, subst, ◌∙◌}
 use Rattle.std.specs.List.{All}
 use Rattle.savings_report.specs.FigureSamples.{AreFew}
-use Rattle.savings_placement.specs.Placement.{table_of}
+use Rattle.savings_replay.specs.Placement.{table_of}
 use Rattle.savings_report.proofs.PerfectPages.{perfect_few}
 use Rattle.savings_report.proofs.SampleTables.{is_sample}
 use Rattle.savings_report.proofs.samples.sample_of.Goals as goal

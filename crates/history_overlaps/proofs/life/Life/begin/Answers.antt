@@ -1,5 +1,5 @@
 use Rattle.std.proofs.Common.{◌≡◌, refl, subst}
-use Rattle.history_memory.specs.ObjectBytes.{first_state}
+use Rattle.history_object.specs.ObjectBytes.{first_state}
 use Rattle.history_overlaps.specs.Judges.{AccessJudge}
 use Rattle.history_overlaps.specs.LifeSteps.{IsFirst}
 use Rattle.history_overlaps.proofs.life.Life.begin.Goals as goal

@@ -1,5 +1,5 @@
 use Rattle.std.proofs.Common.{refl}
-use Rattle.history_memory.specs.ObjectBytes.{first_state}
+use Rattle.history_object.specs.ObjectBytes.{first_state}
 use Rattle.history_overlaps.proofs.life.Life.end.Goals as goal
 
 pub returns-in-Some-2-clause-ended : goal.returns-in-Some-2-clause-ended

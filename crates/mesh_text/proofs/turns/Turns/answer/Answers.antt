@@ -4,7 +4,7 @@ use Rattle.model_jobs.specs.Jobs.{Job, PagesMeshed, PagesSwept, StepsLeft, busy_
 use Rattle.model_heap.specs.Mesh.{begin, cancel, mesh_in, mesh_whole}
 use Rattle.model_heap.specs.Table.{sweep}
 use Rattle.model_words.specs.declared.versions.Version.{Version}
-use Rattle.text_spelling.specs.Answers.{count_told}
+use Rattle.mesh_text.specs.Answers.{count_told}
 use Rattle.mesh_text.specs.Turns.{IsCall}
 use Rattle.mesh_text.proofs.LineTexts.{counted_on, told_on}
 use Rattle.mesh_text.proofs.MesherCalls.{counted_call, report_call, stepped_call}

@@ -1,6 +1,6 @@
 use Rattle.std.proofs.Common.{◌≡◌, ◌∙◌, ℕ, Some, None, inl, inr, refl, sym}
 use Rattle.std.proofs.lemmas.Bool.Decides.{eqb_tells}
-use Rattle.savings_placement.specs.Records.{KeepsOthers}
+use Rattle.savings_replay.specs.Records.{KeepsOthers}
 use Rattle.mesh_spans.specs.Index.{Index, address_in, record_at, span_at}
 use Rattle.savings_replay.proofs.heaps.TwoHeaps.new.Goals as goal
 

@@ -1,3 +1,0 @@
-pub mod Chunks
-pub mod ObjectBytes
-pub mod Prints

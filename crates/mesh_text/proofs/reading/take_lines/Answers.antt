@@ -1,7 +1,0 @@
-use Rattle.std.proofs.Common.{rules}
-use Rattle.mesh_text.proofs.Pieces.{held_on}
-use Rattle.mesh_text.proofs.reading.take_lines.Goals as goal
-
-pub returns-clause-held : goal.returns-clause-held
-returns-clause-held c = λ text before.
-    rw c.copy_within.ensures.after (held_on _ _ _ _ _ _ (search rules) c.requires.held before c.in_ok-taken.ensures.taken)

@@ -1,5 +1,0 @@
-use Rattle.savings_placement.proofs.ClassLaws.{objects_fit}
-use Rattle.savings_placement.proofs.class_laws.objects_fit_pages.Goals as goal
-
-pub returns : goal.returns
-returns c = objects_fit

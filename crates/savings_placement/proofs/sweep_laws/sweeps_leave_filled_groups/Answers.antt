@@ -1,5 +1,0 @@
-use Rattle.savings_placement.proofs.FilledGroups.{swept_filled}
-use Rattle.savings_placement.proofs.sweep_laws.sweeps_leave_filled_groups.Goals as goal
-
-pub returns : goal.returns
-returns c = swept_filled

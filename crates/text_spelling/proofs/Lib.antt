@@ -1,4 +1,0 @@
-pub mod HistoryParts
-pub mod JobTexts
-pub mod PartTexts
-pub mod RecordedTexts

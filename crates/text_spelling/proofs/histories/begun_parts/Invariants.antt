@@ -1,8 +1,0 @@
-use Rattle.std.proofs.Common.{◌≡◌, map}
-use Rattle.std.specs.List.{range_with_len}
-use Rattle.std.specs.Vec.{vec_items}
-use Rattle.text_spelling.specs.Histories.{worker_line}
-use Rattle.text_spelling.proofs.histories.begun_parts.Given as goal
-
-abbrev pub invariant-loop-worker : goal.invariant-loop-worker
-invariant-loop-worker l = map vec_items l.parts.items ≡ map worker_line (range_with_len 0 l.worker)

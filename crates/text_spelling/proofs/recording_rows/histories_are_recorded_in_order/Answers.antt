@@ -1,8 +1,0 @@
-use Rattle.std.proofs.Common.{refl}
-use Rattle.std.specs.Fmt.{digits}
-use Rattle.text_spelling.specs.Recordings.{recorded_text}
-use Rattle.text_spelling.proofs.recording_rows.histories_are_recorded_in_order.Goals as goal
-
-pub returns : goal.returns
-unfolding recorded_text digits
-returns c = record { none = refl; each = refl }
