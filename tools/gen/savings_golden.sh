@@ -8,7 +8,7 @@
 # .err file; an empty file is removed.
 #
 # A line is printed only for a run that fails: the .args file and its standard error. The status is 1 if a run ends with
-# a status other than 0 or 1, and 2 if the engine can't be compiled. It needs a C++ compiler (CXX, by default g++).
+# a status other than 0, 2 or 4, and 2 if the engine can't be compiled. It needs a C++ compiler (CXX, by default g++).
 #
 # The histories:
 #
@@ -33,10 +33,13 @@ for args in histories/savings/*.args; do
     golden=${args%.args}
     # shellcheck disable=SC2046 # the words of the options
     "$room/reference" "${args%%.*}.history" $(cat "$args") >"$golden.out" 2>"$golden.err"
-    if [ $? -gt 1 ]; then
-        echo "$args: $(cat "$golden.err")" >&2
-        failed=1
-    fi
+    case $? in
+        0 | 2 | 4) ;;
+        *)
+            echo "$args: $(cat "$golden.err")" >&2
+            failed=1
+            ;;
+    esac
     [ -s "$golden.out" ] || rm "$golden.out"
     [ -s "$golden.err" ] || rm "$golden.err"
 done

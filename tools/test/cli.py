@@ -15,7 +15,7 @@ import pathlib
 import sys
 import tempfile
 
-from cli import check, draw, explore, histories, live, overlaps, record, replay, savings, tables, threads
+from cli import check, command_line, draw, explore, histories, live, overlaps, record, replay, savings, tables, threads
 from cli.suite import Suite
 
 TOP = pathlib.Path(__file__).resolve().parents[2]
@@ -31,7 +31,7 @@ TESTED = {
     "histories": histories,
     "record": record,
     "savings": savings,
-    "command_line": None,
+    "command_line": command_line,
 }
 
 

@@ -125,14 +125,15 @@ replay_fault() {
     [ "$refused" -eq 1 ] || [ "$status" -eq 0 ] || echo " an error, but no allocation failed"
 }
 
-# A run of `check` that prints the file $wanted with status 1 if no allocation fails.
+# A run of `check` that prints the file $wanted with status 3 if no allocation fails.
 verdict_fault() {
-    [ "$status" -eq 1 ] || echo " status $status"
     if [ -s "$room/errors" ]; then
+        [ "$status" -eq 1 ] || echo " status $status"
         is_line "$room/errors" "out of memory" || echo " another error line"
         begins "$wanted" || echo " an output that isn't the first lines, each whole"
         [ "$refused" -eq 1 ] || echo " an error, but no allocation failed"
     else
+        [ "$status" -eq 3 ] || echo " status $status"
         cmp -s "$room/output" "$wanted" || echo " another output"
     fi
 }

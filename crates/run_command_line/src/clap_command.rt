@@ -17,6 +17,15 @@ pub(crate) const PROGRAM: &str = "meshrun";
 /// The version that `--version` prints.
 const VERSION: &str = "0.1.0";
 
+/// The end of the help: the exit statuses (`status`).
+const STATUSES: &str = "\
+Exit statuses:
+  0  everything was done and written; a verdict is positive
+  1  a device, an allocation or a thread failed
+  2  a fault of the command line or of a text; no such outcome or answer
+  3  a verdict is negative
+  4  undecided: too many states or configurations, or the addresses of a heap are used up";
+
 /// Returns the program's `clap` command, with its subcommands, help and version. The only error is an allocation
 /// failure.
 pub(crate) fn meshrun_command<'a>(alloc: Global) -> Result<Command<'a>, AllocError>
@@ -32,6 +41,7 @@ fn bare_command<'a>(alloc: Global) -> Command<'a>
     Command::new(alloc, PROGRAM)
         .about("A modelled heap that is compacted by meshing")
         .version(VERSION)
+        .after_help(STATUSES)
         .subcommand_required(true)
         .arg_required_else_help(true)
 }

@@ -63,8 +63,8 @@ failed_of {A} (Err e) input output read write = failed_stop A e input output rea
 
 -- ---- how a run ends
 
--- no error has the status 0, and 2 is the greatest
-explore_bounds : (error : ExploreError) → (1 ≤ explore_status error) × (explore_status error ≤ 2)
+-- no error has the status 0, and 4 is the greatest
+explore_bounds : (error : ExploreError) → (1 ≤ explore_status error) × (explore_status error ≤ 4)
 explore_bounds (Replay Read) = (omega arith, omega arith)
 explore_bounds (Replay Write) = (omega arith, omega arith)
 explore_bounds (Replay Memory) = (omega arith, omega arith)
@@ -73,7 +73,7 @@ explore_bounds TooManyStates = (omega arith, omega arith)
 explore_bounds NoOutcome = (omega arith, omega arith)
 explore_bounds NotShown = (omega arith, omega arith)
 
-verdict_bounds : (error : VerdictError) → (1 ≤ verdict_status error) × (verdict_status error ≤ 2)
+verdict_bounds : (error : VerdictError) → (1 ≤ verdict_status error) × (verdict_status error ≤ 4)
 verdict_bounds (Explore error) = explore_bounds error
 verdict_bounds (NoPattern number) = (omega arith, omega arith)
 

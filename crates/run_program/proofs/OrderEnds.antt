@@ -30,7 +30,7 @@ ended_well : (most : ℕ) (before after : Seen) (status : ℕ) → HasToldOrder 
 ended_well most before after status told sound untold = record { done = told; sound = sound; untold = untold }
 
 -- an order or a judgement was written
-pub order_ends : (most : ℕ) (before after : Seen) (status : ℕ) → status ≤ 1 → HasToldOrder most before.left after.left before.written after.written status → IsSound after
+pub order_ends : (most : ℕ) (before after : Seen) (status : ℕ) → status ≤ 4 → HasToldOrder most before.left after.left before.written after.written status → IsSound after
     → Keeps before.told after.told → EndsOrder most before after status
 order_ends most before after status small told sound untold = record {
   done = λ _. ended_well most before after status told sound untold;

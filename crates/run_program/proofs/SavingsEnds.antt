@@ -20,7 +20,7 @@ status_bounds (NotAHistory line) = (omega arith, omega arith)
 module _ (options : SavingsOptions) (before after : Seen) where
   -- a heap had no virtual pages left for a call
   pub used_up_ends : (call : ℕ) → HasWrittenReport options before.left after.left before.written after.written (Some call) → IsSound after
-      → HasTold after.errors_failed before.told after.told (ended (used_up_text call)) → EndsSavings options before after 1
+      → HasTold after.errors_failed before.told after.told (ended (used_up_text call)) → EndsSavings options before after 4
   used_up_ends call written sound told = record {
     done = λ none. absurd (omega (arith, none));
     stopped = λ _. inl (refl, (call, record { written = written; sound = sound; told = told }));

@@ -40,13 +40,13 @@ abbrev pub HasFailedCheck : Bool → Bool → CheckError → Type 0
 HasFailedCheck input output (Replay error) = HasFailed input output error
 HasFailedCheck input output (Order line) = Unit {0}
 
--- the status of a judgement: 0 if the history is legal or linearizable, otherwise 1
+-- the status of a judgement: 0 if the history is legal or linearizable, 4 if this isn't decided, otherwise 3
 abbrev pub judgement_status : Judgement → ℕ
 judgement_status (InOrder (Legal entries)) = 0
-judgement_status (InOrder (Wrong line reason)) = 1
+judgement_status (InOrder (Wrong line reason)) = 3
 judgement_status (Overlapping (Linearizable entries)) = 0
-judgement_status (Overlapping (Flawed line flaw)) = 1
-judgement_status (Overlapping (Undecided line fault)) = 1
+judgement_status (Overlapping (Flawed line flaw)) = 3
+judgement_status (Overlapping (Undecided line fault)) = 4
 
 -- the history was judged, the judgement's line was written, and the judgement has this status
 abbrev pub HasToldVerdict : ℕ → Option (List ℕ) → Option (List ℕ) → Option (List ℕ) → Option (List ℕ) → ℕ → Type 0
@@ -68,10 +68,10 @@ abbrev pub IsJudged : ℕ → Seen → Seen → ℕ → Type 0
 IsJudged most before after status = IsDone (λ left left' written written'. HasToldVerdict most left left' written written' status) before after
 
 -- how a judgement ends. If the status is 0, a verdict with this status was written. Otherwise such a verdict was
--- written, or the judgement stopped for an error with this status. The status is at most 2
+-- written, or the judgement stopped for an error with this status. The status is at most 4
 pub record EndsCheck (most : ℕ) (before after : Seen) (status : ℕ) : Type 0 where
   pub done : status ≡ 0 → IsJudged most before after status
   pub found : 0 < status
       → IsJudged most before after status
       ⊎ ((error : CheckError) × (status ≡ status_of_check error) × IsStoppedFor check_error_text HasFailedCheck (HasStoppedCheck most) before after error)
-  pub small : status ≤ 2
+  pub small : status ≤ 4

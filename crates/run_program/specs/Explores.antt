@@ -23,10 +23,10 @@ use Rattle.explore_verdict.specs.Patterns.{pattern_of, Wanted as Pattern}
 use Rattle.explore_verdict.specs.Runs.{HasJudged}
 
 -- an error's line, without its end, and its status. The status is 2 if the file has a fault, or if the outcome or the
--- answer that was asked for doesn't exist. Otherwise it is 1
+-- answer that was asked for doesn't exist, and 4 if there are too many states. Otherwise it is 1
 abbrev explore_told : ℕ → ExploreError → List ℕ × ℕ
 explore_told states (Replay error) = (error_text error, status_of_error error)
-explore_told states TooManyStates = (codes "too many states: more than " ++ decimal states ++ codes "; --states raises the limit", 1)
+explore_told states TooManyStates = (codes "too many states: more than " ++ decimal states ++ codes "; --states raises the limit", 4)
 explore_told states NoOutcome = (codes "no such outcome", 2)
 explore_told states NotShown = (codes "no such answer in that phase", 2)
 
@@ -125,14 +125,14 @@ HasStoppedVerdict args criteria left left' written written' (NoPattern number) =
 abbrev pub IsJudged : ExploreArgs → Criteria → Bool → Seen → Seen → Type 0
 IsJudged args criteria well before after = IsDone (HasJudgedBy args criteria well) before after
 
--- how a verdict ends. If the status is 0, the outcomes meet the criteria. Otherwise the status is 1 and they don't, or
--- the exploration stopped for an error with this status. The status is at most 2
+-- how a verdict ends. If the status is 0, the outcomes meet the criteria. Otherwise the status is 3 and they don't, or
+-- the exploration stopped for an error with this status. The status is at most 4
 pub record EndsVerdict (args : ExploreArgs) (criteria : Criteria) (before after : Seen) (status : ℕ) : Type 0 where
   pub done : status ≡ 0 → IsJudged args criteria true before after
-  pub found : 0 < status → ((status ≡ 1) × IsJudged args criteria false before after)
+  pub found : 0 < status → ((status ≡ 3) × IsJudged args criteria false before after)
       ⊎ ((error : VerdictError) × (status ≡ verdict_status error)
       × IsStoppedFor (verdict_text args.states) HasFailedVerdict (HasStoppedVerdict args criteria) before after error)
-  pub small : status ≤ 2
+  pub small : status ≤ 4
 
 -- ---- explorations
 

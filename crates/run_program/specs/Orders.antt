@@ -59,8 +59,8 @@ HasEndedFor before after status error =
     (status ≡ status_of_check error) × HasTold after.errors_failed before.told after.told (ended (check_error_text error))
 
 -- how a run that is asked for an order ends. If the status is 0, an order or a judgement was written. Otherwise a
--- judgement with this status was written, or the run stopped for an error with this status. The status is at most 2
+-- judgement with this status was written, or the run stopped for an error with this status. The status is at most 4
 pub record EndsOrder (most : ℕ) (before after : Seen) (status : ℕ) : Type 0 where
   pub done : status ≡ 0 → HasEndedWell most before after status
   pub found : 0 < status → HasEndedWell most before after status ⊎ ((error : CheckError) × HasEndedFor before after status error)
-  pub small : status ≤ 2
+  pub small : status ≤ 4

@@ -62,12 +62,12 @@ pub record IsStoppedFor {Error : Type 0} (text_of : Error → List ℕ) (Fails :
   pub told : HasTold after.errors_failed before.told after.told (ended (text_of error))
 
 -- how a run ends. If the status is 0, the run did its work. Otherwise the run stopped for an error with this status.
--- The status is at most 2
+-- The status is at most 4
 pub record EndsBy {Error : Type 0} (status_of : Error → ℕ) (text_of : Error → List ℕ) (Fails : Bool → Bool → Error → Type 0) (Does : Moves)
     (Stops : MovesBy Error) (before after : Seen) (status : ℕ) : Type 0 where
   pub done : status ≡ 0 → IsDone Does before after
   pub stopped : 0 < status → (error : Error) × (status ≡ status_of error) × IsStoppedFor text_of Fails Stops before after error
-  pub small : status ≤ 2
+  pub small : status ≤ 4
 
 -- how a run ends if its errors are those of a replay
 abbrev pub Ends : Moves → MovesBy ReplayError → Seen → Seen → ℕ → Type 0

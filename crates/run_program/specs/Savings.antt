@@ -44,10 +44,10 @@ abbrev pub savings_text : SavingsError → List ℕ
 savings_text (Replay error) = error_text error
 savings_text (NotAHistory line) = codes "line " ++ decimal line ++ codes ": not a history"
 
--- the status of an error that stops a report: 2 if the text has a fault, otherwise 1
+-- the status of an error that stops a report: 2 if the text has a fault or is no history, otherwise 1
 abbrev pub savings_status : SavingsError → ℕ
 savings_status (Replay error) = status_of_error error
-savings_status (NotAHistory line) = 1
+savings_status (NotAHistory line) = 2
 
 -- the device that the error names, if any, has failed
 abbrev pub HasFailedSavings : Bool → Bool → SavingsError → Type 0
@@ -81,9 +81,9 @@ pub record IsUsedUp (options : SavingsOptions) (before after : Seen) (call : ℕ
   pub told : HasTold after.errors_failed before.told after.told (ended (used_up_text call))
 
 -- how a report ends. If the status is 0, the table or the plot of the whole history was written. Otherwise the report
--- stopped for an error with this status, or the status is 1 and `IsUsedUp` holds of some call. The status is at most 2
+-- stopped for an error with this status, or the status is 4 and `IsUsedUp` holds of some call. The status is at most 4
 pub record EndsSavings (options : SavingsOptions) (before after : Seen) (status : ℕ) : Type 0 where
   pub done : status ≡ 0 → IsDone (λ left left' written written'. HasWrittenReport options left left' written written' None) before after
-  pub stopped : 0 < status → ((status ≡ 1) × ((call : ℕ) × IsUsedUp options before after call))
+  pub stopped : 0 < status → ((status ≡ 4) × ((call : ℕ) × IsUsedUp options before after call))
       ⊎ ((error : SavingsError) × (status ≡ savings_status error) × IsStoppedFor savings_text HasFailedSavings (HasStoppedSavings options) before after error)
-  pub small : status ≤ 2
+  pub small : status ≤ 4

@@ -10,7 +10,7 @@ use crate::check_error::CheckError;
 use crate::fault_line::{Line, line_of, number_line};
 use crate::runs::{status_of, tell};
 use history_judge::{Begun, CallVerdict, Judgement, Verdict, judge, judgement_line};
-use run_command_line::status::{DONE, FAILED, FAULTY};
+use run_command_line::status::{DONE, FAULTY, NEGATIVE, UNDECIDED};
 use std::alloc::Global;
 use text_devices::{Sink, Source, write_lines};
 
@@ -21,7 +21,8 @@ use text_devices::{Sink, Source, write_lines};
 /// The status is:
 ///
 /// - 0 with the line `legal N entries` or `linearizable N entries`;
-/// - 1 with the line of another verdict;
+/// - 3 with the line of a negative verdict;
+/// - 4 with the line of a history that isn't decided;
 /// - 1 with the line `read fault`, `write fault` or `out of memory` in `errors`;
 /// - 2 with the line `line L: KIND` if the text has a fault, or `line L: ORDER` if a call is out of order.
 ///
@@ -57,7 +58,7 @@ pub(crate) fn write_verdict<I: Source + Drop, O: Sink>(
         (HasToldVerdict most (prepend_known input.old.begun.items (I.remaining input.old.inner))
         (prepend_known input.new.begun.items (I.remaining input.new.inner)) (O.written output.old)
         (O.written output.new)) }
-    ensures small { IfOk result (λ status. status ≤ 1) }
+    ensures small { IfOk result (λ status. status ≤ 4) }
     ensures stopped { IfErr result
         (HasStoppedCheck most (prepend_known input.old.begun.items (I.remaining input.old.inner))
         (prepend_known input.new.begun.items (I.remaining input.new.inner)) (O.written output.old)
@@ -73,14 +74,14 @@ pub(crate) fn write_verdict<I: Source + Drop, O: Sink>(
 /// The exit status of a judgement.
 pub(crate) fn status_of_judgement(judgement: &Judgement) -> u8
     ensures status { result ≡ judgement_status judgement.now }
-    ensures small { result ≤ 1 }
+    ensures small { result ≤ 4 }
 {
     match judgement {
         Judgement::InOrder(Verdict::Legal(_)) => DONE,
-        Judgement::InOrder(Verdict::Wrong(_, _)) => FAILED,
+        Judgement::InOrder(Verdict::Wrong(_, _)) => NEGATIVE,
         Judgement::Overlapping(CallVerdict::Linearizable(_)) => DONE,
-        Judgement::Overlapping(CallVerdict::Flawed(_, _)) => FAILED,
-        Judgement::Overlapping(CallVerdict::Undecided(_, _)) => FAILED,
+        Judgement::Overlapping(CallVerdict::Flawed(_, _)) => NEGATIVE,
+        Judgement::Overlapping(CallVerdict::Undecided(_, _)) => UNDECIDED,
     }
 }
 

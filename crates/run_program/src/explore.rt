@@ -11,7 +11,7 @@ use crate::runs::{status_of, tell};
 use crate::verdict::verdict_run;
 use crate::{Criteria, Devices, ExploreArgs, ShownArgs, Told};
 use explore_report::{ExploreError, ExploreOptions, Shown, Wanted, explore};
-use run_command_line::status::{DONE, FAILED, FAULTY};
+use run_command_line::status::{DONE, FAULTY, UNDECIDED};
 use states_reach::Watch;
 use std::alloc::Global;
 use text_devices::{Sink, Source};
@@ -23,9 +23,9 @@ use text_devices::{Sink, Source};
 /// The status is:
 ///
 /// - 0 if everything was written and, for a verdict, the outcomes meet the criteria;
-/// - 1 for a verdict if the outcomes don't meet the criteria;
-/// - 1 with the line `read fault`, `write fault`, `out of memory` or `too many states: more than N; --states raises the
-///   limit`;
+/// - 3 for a verdict if the outcomes don't meet the criteria;
+/// - 1 with the line `read fault`, `write fault` or `out of memory`;
+/// - 4 with the line `too many states: more than N; --states raises the limit`;
 /// - 2 with the line `line N: KIND` if the job's text has a fault;
 /// - 2 with `no such outcome` or `no such answer in that phase` if the outcome or the answer that was asked for doesn't
 ///   exist;
@@ -147,7 +147,7 @@ pub(crate) fn explore_status_of(error: ExploreError) -> u8
 {
     match error {
         ExploreError::Replay(error) => status_of(error),
-        ExploreError::TooManyStates => FAILED,
+        ExploreError::TooManyStates => UNDECIDED,
         ExploreError::NoOutcome | ExploreError::NotShown => FAULTY,
     }
 }

@@ -52,7 +52,7 @@ fn write_order<I: Source, O: Sink>(
     ensures told { IfOk result
         (HasToldOrder most (I.remaining input.old) (I.remaining input.new) (O.written output.old)
         (O.written output.new)) }
-    ensures small { IfOk result (λ status. status ≤ 1) }
+    ensures small { IfOk result (λ status. status ≤ 4) }
 {
     let text = read_all(alloc, input)?;
     let judgement = judged(alloc, text.as_slice(), most)?;
@@ -94,7 +94,7 @@ fn write_judgement<O: Sink>(
     ensures wrote { OnOk result
         (Appends (O.written output.old) (O.written output.new) (judgement_text most judgement.now)) }
     ensures status { IfOk result (λ status. status ≡ judgement_status judgement.now) }
-    ensures small { IfOk result (λ status. status ≤ 1) }
+    ensures small { IfOk result (λ status. status ≤ 4) }
 {
     let line = judgement_line(alloc, judgement, most)?;
     write_lines(output, line.as_slice())?;

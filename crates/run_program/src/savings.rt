@@ -8,7 +8,7 @@ ghost use Rattle.savings_report.specs.declared.errors.SavingsError.{SavingsError
 use crate::fault_line::{Line, line_of, number_line};
 use crate::runs::{status_of, tell};
 use crate::{Devices, SavingsArgs};
-use run_command_line::status::{DONE, FAILED};
+use run_command_line::status::{DONE, FAULTY, UNDECIDED};
 use savings_report::{Form, SavingsError, SavingsOptions, Settings, Window, Words, report};
 use std::alloc::Global;
 use text_devices::{Sink, Source, write_lines};
@@ -16,12 +16,12 @@ use text_devices::{Sink, Source, write_lines};
 /// Follows the recorded history in the input on two heaps, writes what meshing saves to the output, as a table or a
 /// plot, and returns the exit status. Any fault is written to `errors`.
 ///
-/// The status is 0 with the whole table or plot. The status is 1 if a heap has too few virtual pages left for the `new`
+/// The status is 0 with the whole table or plot. The status is 4 if a heap has too few virtual pages left for the `new`
 /// of call N. Then the table or plot has the calls before N, and the line is `addresses used up at call N`.
 ///
-/// The status is 1 with the line `line L: not a history`, `read fault`, `write fault` or `out of memory`. The status is
-/// 2 with the line `line L: KIND` if the text has a fault, and the report didn't stop for another reason before this
-/// fault. If the line can't be written, the status is the same.
+/// The status is 1 with the line `read fault`, `write fault` or `out of memory`. The status is 2 with the line `line L:
+/// not a history`, or with the line `line L: KIND` if the text has a fault, and the report didn't stop for another
+/// reason before this fault. If the line can't be written, the status is the same.
 pub fn savings_run<I: Source, O: Sink, E: Sink>(
     alloc: Global,
     args: &SavingsArgs,
@@ -35,7 +35,7 @@ pub fn savings_run<I: Source, O: Sink, E: Sink>(
         Ok(None) => DONE,
         Ok(Some(call)) => {
             tell(&mut devices.errors, used_up_line(call).as_slice());
-            FAILED
+            UNDECIDED
         }
         Err(error) => {
             tell(&mut devices.errors, savings_line_of(error).as_slice());
@@ -117,6 +117,6 @@ fn savings_status_of(error: SavingsError) -> u8
 {
     match error {
         SavingsError::Replay(error) => status_of(error),
-        SavingsError::NotAHistory(_) => FAILED,
+        SavingsError::NotAHistory(_) => FAULTY,
     }
 }

@@ -11,7 +11,7 @@ use crate::fault_line::{Line, number_line};
 use crate::runs::{status_of, tell, tell_error};
 use crate::{Criteria, Devices, ExploreArgs, VerdictError};
 use explore_verdict::{Pattern, VerdictOptions, verdict};
-use run_command_line::status::{DONE, FAILED, FAULTY};
+use run_command_line::status::{DONE, FAULTY, NEGATIVE};
 use states_reach::Watch;
 use std::alloc::{AllocError, Global};
 use text_devices::{Sink, Source, read_all};
@@ -56,7 +56,7 @@ pub(crate) fn verdict_run<I: Source, O: Sink, E: Sink, W: Watch>(
         watch,
     ) {
         Ok(true) => DONE,
-        Ok(false) => FAILED,
+        Ok(false) => NEGATIVE,
         Err(error) => {
             tell(
                 &mut devices.errors,

@@ -4,7 +4,7 @@
 //     ./reference FILE
 //
 // FILE is a history of version 1. For a text without a fault it prints the verdict that `meshrun check` prints. The
-// status is 0 if the history is legal, 1 if it isn't, and 2 if FILE doesn't begin as a history of version 1. It needs a
+// status is 0 if the history is legal, 3 if it isn't, and 2 if FILE doesn't begin as a history of version 1. It needs a
 // C++17 compiler; tools/bench/check.sh compiles and runs it.
 //
 // Objects are in a std::map and a std::unordered_map, their bytes in chunks of 64. A line is cut into its fields.
@@ -251,7 +251,7 @@ int main(int count, char** words) {
         std::string reason = judge.take(line, asked, std::string_view(text).substr(arrow + 4));
         if (!reason.empty()) {
             std::cout << "line " << line << ": " << reason << "\n";
-            return 1;
+            return 3;
         }
     }
     std::cout << "legal " << line - 1 << " entries\n";

@@ -7,8 +7,8 @@ FILE is a history of version 2, or `-` for standard input. The text must be well
 lines. At most N configurations of an object, by default 100,000, are visited at the end of one call.
 
 The output is the verdict in one line: the first flaw in the order of ends, and at equal ends in the order of lines. The
-status is 0 if there is none, and 1 if there is one or the configurations don't suffice. A fault of the order of lines
-has status 2, and `line L: ORDER` on standard error.
+status is 0 if there is none, 3 if there is one, and 4 if the configurations don't suffice. A fault of the order of
+lines has status 2, and `line L: ORDER` on standard error.
 
 Each object is judged by itself (Herlihy and Wing: linearizability is local). Its calls are taken forward in time, with
 a heap of pending ends. Its configurations are kept: pairs of its bytes and of the set of pending calls that had their
@@ -351,7 +351,8 @@ def judged(text, limit):
     if fault and not (flaw and flaw[0].end < calls[-1].begin):
         return 2, None, f"line {fault.args[0]}: ORDER"
     if flaw:
-        return 1, verdict_of_flaw(flaw), None
+        verdict = verdict_of_flaw(flaw)
+        return 4 if verdict.startswith("undecided") else 3, verdict, None
     return 0, f"linearizable {len(calls)} entries", None
 
 

@@ -52,11 +52,11 @@
 //
 // The status is 0, or there is one line on standard error:
 //
-//     1    `line L: not a history`: a `free` or `alias` of a cell that holds no live object
-//     1    `addresses used up at call N`: one of the heaps has too few virtual pages left for this `new`. The output is
-//          that of the calls before it; the rest of the file isn't read
 //     1    `read fault`, `write fault`, `out of memory`
 //     2    `line L: KIND`: the first fault of the text
+//     2    `line L: not a history`: a `free` or `alias` of a cell that holds no live object
+//     4    `addresses used up at call N`: one of the heaps has too few virtual pages left for this `new`. The output is
+//          that of the calls before it; the rest of the file isn't read
 //     2    the usage
 //
 // With any of these except used up addresses and a write fault, nothing is printed to standard output.
@@ -361,11 +361,11 @@ void run(const Options &options) {
     Savings::Outcome outcome = Savings::Made;
     Call call;
     while (outcome == Savings::Made && history.next(call)) outcome = savings.make(call);
-    if (outcome == Savings::NoObject) throw history.stop(1, "not a history");
+    if (outcome == Savings::NoObject) throw history.stop(2, "not a history");
     savings.print();
     if (fflush(stdout) != 0) throw Stop{1, "write fault"};
     if (outcome == Savings::NoAddresses)
-        throw Stop{1, "addresses used up at call " + std::to_string(savings.calls + 1)};
+        throw Stop{4, "addresses used up at call " + std::to_string(savings.calls + 1)};
 }
 
 }  // namespace

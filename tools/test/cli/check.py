@@ -63,8 +63,9 @@ def overlapping(suite, history):
         suite.check(name, 0, verdict, NOTHING, "check", history, *words)
         order(suite, ordered, history)
     else:
-        suite.check(name, 1, verdict, NOTHING, "check", history, *words)
-        suite.check(ordered, 1, verdict, NOTHING, "check", history, "--order", *words)
+        status = 4 if verdict.read_text().startswith("undecided") else 3
+        suite.check(name, status, verdict, NOTHING, "check", history, *words)
+        suite.check(ordered, status, verdict, NOTHING, "check", history, "--order", *words)
 
 
 def order(suite, name, history):
@@ -88,7 +89,7 @@ def racing_threads(suite):
         wanted = line(f"linearizable {entries_in(history)} entries")
         suite.check(name, 0, wanted, NOTHING, "check", history)
         order(suite, f"check --order: the calls of {threads} threads that race", history)
-        suite.check(f"{name}, with a bug", 1, SOME_TEXT, NOTHING, "check", faulty(suite, racing, threads))
+        suite.check(f"{name}, with a bug", 3, SOME_TEXT, NOTHING, "check", faulty(suite, racing, threads))
 
 
 def faulty(suite, racing, threads):

@@ -122,13 +122,13 @@ def verdicts(suite):
     check("outcomes without the last end", 0, expected, "--expect", cut)
 
     listed = suite.write("listed", first + b"outcome\n" + other)
-    check("another outcome", 1, b"missing:\n" + other + reported("unexpected", 1), "--expect", listed)
+    check("another outcome", 3, b"missing:\n" + other + reported("unexpected", 1), "--expect", listed)
     empty = suite.write("empty", b"")
-    check("no outcome expected", 1, reported("unexpected", 0) + reported("unexpected", 1), "--expect", empty)
-    check("never worker 1: bytes 00", 1, reported("never", 1), "--never", "worker 1: bytes 00")
+    check("no outcome expected", 3, reported("unexpected", 0) + reported("unexpected", 1), "--expect", empty)
+    check("never worker 1: bytes 00", 3, reported("never", 1), "--never", "worker 1: bytes 00")
     listed = suite.write("listed", first)
     patterns = "--never", "worker 9: *", "--never", "worker 0: * | bytes aa"
-    check("both at once", 1, reported("unexpected", 1) + reported("never", 0), "--expect", listed, *patterns)
+    check("both at once", 3, reported("unexpected", 1) + reported("never", 0), "--expect", listed, *patterns)
 
 
 def progress(suite):

@@ -39,7 +39,7 @@ def tiny_histories(suite):
         counts[kind] += 1
         run = suite.run("check", suite.write("tiny.history", text))
         word = run.output.split(b" ")[0]
-        if (run.status, word, run.errors) != ((0, b"linearizable", b"") if kind == IN_ORDER else (1, b"line", b"")):
+        if (run.status, word, run.errors) != ((0, b"linearizable", b"") if kind == IN_ORDER else (3, b"line", b"")):
             faults.append(f"{number}, {calls}: {kind}")
     few = [f"{counts[kind]} {kind}" for kind in (IN_ORDER, WITHOUT_ORDER, OUTSIDE_LIVES) if counts[kind] <= LEAST]
     suite.report(f"overlaps: {TINY} random histories, as all orders of each have it", faults[:3] + few)
@@ -109,7 +109,8 @@ def pending(suite):
         ("65 pending accesses in an order", [store, *loads], undecided, "--order"),
     ):
         history = suite.write("pending.history", lines([*made, *calls]))
-        suite.check(f"overlaps: {name}", 1, line(verdict), NOTHING, "check", history, *words)
+        status = 4 if verdict == undecided else 3
+        suite.check(f"overlaps: {name}", status, line(verdict), NOTHING, "check", history, *words)
 
 
 def possible_loads(suite):
@@ -120,4 +121,4 @@ def possible_loads(suite):
         rows += [f"{worker} 2 9 put 0 0 0{worker} -> done" for worker in range(1, stores + 1)]
         history = suite.write("loads.history", lines([*rows, "99 3 4 get 0 0 1 -> bytes ff"]))
         wanted = line(f"line {stores + 3}: no order explains bytes ff; possible: {named}{more}")
-        suite.check(f"overlaps: a load among {stores} pending stores", 1, wanted, NOTHING, "check", history)
+        suite.check(f"overlaps: a load among {stores} pending stores", 3, wanted, NOTHING, "check", history)

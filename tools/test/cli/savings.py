@@ -34,10 +34,15 @@ def golden(suite, options):
     """A table or a fault that the other engine wrote. The history of a.b.args is a.history."""
     history = options.with_name(options.name.split(".")[0] + ".history")
     output, errors = (options.with_suffix(suffix) for suffix in (".out", ".err"))
-    status = 1 if errors.exists() else 0
+    status = status_of(errors.read_text()) if errors.exists() else 0
     texts = [path if path.exists() else NOTHING for path in (output, errors)]
     words = options.read_text().split()
     suite.check(f"savings: {options.with_suffix('')}", status, *texts, "savings", history, *words)
+
+
+def status_of(fault):
+    """The status with a line on standard error: bad input, or addresses that were used up."""
+    return 4 if fault.startswith("addresses used up") else 2
 
 
 def more_than_the_addresses():

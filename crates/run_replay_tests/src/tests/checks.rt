@@ -59,7 +59,7 @@ fn check_table(rt: &(impl Abort + AllocGlobal), table: &str, status: u8) {
 fn judges_a_history(rt: HostRuntime) {
     check_table(&rt, IN_ORDER, 0);
     check_history(&rt, "overlaps", OVERLAPPING, "linearizable 4 entries\n", 0);
-    check_table(&rt, ILLEGAL, 1);
+    check_table(&rt, ILLEGAL, 3);
     check_table(&rt, FAULTS, 2);
 }
 

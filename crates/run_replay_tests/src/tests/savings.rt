@@ -57,7 +57,7 @@ fn check_report(rt: &(impl Abort + AllocGlobal), text: &str, table: &str, line: 
 fn tells_what_meshing_saves(rt: HostRuntime) {
     check_report(&rt, HISTORY, TABLE, "", 0);
     check_report(&rt, FAULTY, "", "line 2: WORD\n", 2);
-    check_report(&rt, NO_HISTORY, "", "line 3: not a history\n", 1);
+    check_report(&rt, NO_HISTORY, "", "line 3: not a history\n", 2);
 }
 
 #[test]

@@ -72,7 +72,7 @@ fn tells_what_it_finds(rt: HostRuntime) {
         &rt,
         "meshrun/explore/a.job/--mesh/1:0/--never/worker 1: bytes 00",
         FORBIDDEN,
-        1,
+        3,
     );
     check_exploration(
         &rt,
