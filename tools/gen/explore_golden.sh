@@ -4,7 +4,8 @@
 #     tools/gen/explore_golden.sh
 #
 # For each NAME.args, it runs tools/engines/explore/reference.cpp on NAME.job with the options in NAME.args, a word a
-# line, and writes the standard output to NAME.out. The engine is plain C++ and shares no code with the program.
+# line, and writes the standard output to NAME.out. If some mesh begins in no interleaving, NAME.unbegun has the lines of
+# a verdict about that. The engine is plain C++ and shares no code with the program.
 #
 # A line is printed only for a run that fails: NAME.args and its standard error. The status is 1 if a run ends with a
 # status other than 0, and 2 if the engine can't be compiled. It needs a C++ compiler (CXX, by default g++).
@@ -18,9 +19,11 @@ failed=0
 for args in jobs/explore/*.args; do
     golden=${args%.args}
     # shellcheck disable=SC2046 # the words of the options
-    if ! "$room/reference" "$golden.job" $(cat "$args") >"$golden.out" 2>"$room/errors"; then
+    if ! "$room/reference" "$golden.job" $(cat "$args") >"$golden.out" 2>"$room/errors" ||
+        ! "$room/reference" "$golden.job" $(cat "$args") -b >"$golden.unbegun" 2>"$room/errors"; then
         echo "$args: $(cat "$room/errors")" >&2
         failed=1
     fi
+    [ -s "$golden.unbegun" ] || rm "$golden.unbegun"
 done
 exit $failed

@@ -1,3 +1,4 @@
+pub mod BegunMeshes
 pub mod Blocks
 pub mod Colons
 pub mod Runs

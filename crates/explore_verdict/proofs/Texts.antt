@@ -1,11 +1,8 @@
 -- The texts of outcomes, and which outcomes match a pattern.
-use Rattle.std.proofs.Common.{◌≡◌, ◌⊎◌, ◌∙◌, ℕ, zero, suc, ◌+◌, ◌<◌, ◌≤◌, Bool, true, false, List, [], ◌∷◌, ◌++◌, Option, Some, None, Result, Ok, Err, IfOk, length, length-append, slice_get, arith, ap, refl, subst, sym, inl, inr}
+use Rattle.std.proofs.Common.{◌≡◌, ◌⊎◌, ◌∙◌, ℕ, zero, suc, ◌+◌, ◌<◌, ◌≤◌, Bool, true, false, List, [], ◌∷◌, ◌++◌, Some, None, Result, Ok, Err, IfOk, length, length-append, slice_get, arith, ap, refl, subst, sym, inl, inr}
 use Rattle.std.proofs.lemmas.Option.{slice_get_within}
-use Rattle.model_words.specs.declared.commands.Reply.{Reply}
 use Rattle.explore_interleavings.specs.ExploreStates.{ExploreState}
-use Rattle.states_reach.specs.Reach.{IsKept}
 use Rattle.states_reach.proofs.Growth.{get_grown}
-use Rattle.explore_report.specs.Listings.{IsToldAt}
 use Rattle.explore_report.specs.ToldTexts.{told_text}
 use Rattle.explore_report.specs.declared.outcomes.Outcome.{Outcome}
 use Rattle.explore_verdict.specs.Judged.{AreTextsOf, HaveStates, IsTextAt}

@@ -1,9 +1,7 @@
 -- What a verdict says of the outcomes and the blocks that it compares.
-use Rattle.std.proofs.Common.{◌≡◌, ◌≢◌, ◌⊎◌, ◌↔◌, ◌∙◌, ℕ, zero, suc, ◌<◌, List, [], ◌∷◌, Some, length, slice_get, arith, ap, refl, subst, sym, inl, inr}
-use Rattle.model_words.specs.declared.commands.Reply.{Reply}
+use Rattle.std.proofs.Common.{◌≡◌, ◌≢◌, ◌⊎◌, ◌↔◌, ◌∙◌, ℕ, zero, suc, List, [], ◌∷◌, Some, slice_get, arith, ap, refl, subst, sym, inl, inr}
 use Rattle.explore_interleavings.specs.ExploreStates.{ExploreState}
 use Rattle.states_reach.specs.Reach.{IsAbsent, IsKept}
-use Rattle.explore_report.specs.Listings.{IsOutcome, IsToldAt}
 use Rattle.explore_report.specs.ToldTexts.{told_text}
 use Rattle.explore_report.specs.declared.outcomes.Outcome.{Outcome}
 use Rattle.explore_verdict.specs.Compared.{IsAbsentAt}

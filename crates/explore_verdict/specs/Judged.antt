@@ -1,5 +1,5 @@
 -- The verdict on a listing: its outcomes are those that a text lists, or some outcomes are missing or unexpected.
-use Rattle.std.specs.Prelude.{◌≡◌, ◌↔◌, ℕ, List, [], Some, slice_get}
+use Rattle.std.specs.Prelude.{◌≡◌, ℕ, List, [], Some, slice_get}
 use Rattle.model_words.specs.declared.commands.Reply.{Reply}
 use Rattle.explore_interleavings.specs.ExploreStates.{ExploreState}
 use Rattle.states_reach.specs.Reach.{IsAbsent, IsKept}

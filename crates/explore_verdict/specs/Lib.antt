@@ -1,6 +1,9 @@
+pub mod Begun
 pub mod Compared
 pub mod Expected
 pub mod Judged
+pub mod ListFaults
+pub mod Mismatches
 pub mod Never
 pub mod Patterns
 pub mod Runs

@@ -3,17 +3,24 @@
 //! An `AllocError` means that an allocation failed.
 #![tactic(auto)]
 
+pub mod begun;
 mod block;
 mod compared;
 mod expected;
+mod faults;
 mod judging;
+mod list_faults;
+mod mismatches;
 mod never;
 mod pattern;
 mod report;
 mod run;
 
 pub use block::Block;
+pub use faults::VerdictFault;
 pub use judging::{Verdict, judged};
+pub use list_faults::{ListFault, list_fault};
+pub use mismatches::{Mismatch, Unmatchable};
 pub use never::first_match;
 pub use pattern::Pattern;
 pub use run::{VerdictOptions, verdict};

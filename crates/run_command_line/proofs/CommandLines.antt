@@ -143,13 +143,14 @@ judgements_are_asked = ((refl, refl), (refl, refl), (refl, refl))
 -- order, between other options, and their numbers may have a plus and leading zeros
 explorations_are_asked :
     Asks (codes "explore a.job --mesh 1:0")
-    (explore_of (codes "a.job") (record { meshes = record { source = 1; destination = 0 } ∷ []; cancel = None; states = 100000; told = tells_all; is_watched = false }))
+    (explore_of (codes "a.job") (record { meshes = record { source = 1; destination = 0 } ∷ []; cancel = None; states = 100000; told = tells_all; allows_no_mesh = false; is_watched = false }))
     × Asks (codes "explore --mesh=+65535:00 --states 1 --cancel=1000 a.job --mesh 3:2 --witness=0")
     (explore_of (codes "a.job") (record {
       meshes = record { source = 65535; destination = 0 } ∷ record { source = 3; destination = 2 } ∷ [];
       cancel = Some 1000;
       states = 1;
       told = tells_outcome 0;
+      allows_no_mesh = false;
       is_watched = false;
     }))
 unfolding clap_on_literals asked is_taken
@@ -163,14 +164,16 @@ tellings_are_asked :
       cancel = None;
       states = 100000;
       told = tells_answer (record { line = 12; answer = codes "done"; phase = codes "mesh" });
+      allows_no_mesh = false;
       is_watched = true;
     }))
-    × Asks (codes "explore a.job --mesh 1:0 --never=one --expect a.out --never two")
+    × Asks (codes "explore a.job --mesh 1:0 --never=one --expect a.out --allow-no-mesh --never two")
     (explore_of (codes "a.job") (record {
       meshes = record { source = 1; destination = 0 } ∷ [];
       cancel = None;
       states = 100000;
       told = tells_verdict (record { expect = Some (codes "a.out"); never = codes "one" ∷ codes "two" ∷ [] });
+      allows_no_mesh = true;
       is_watched = false;
     }))
 unfolding clap_on_literals asked is_taken

@@ -1,11 +1,11 @@
 -- What the command line's words say of what is told of an exploration.
-use Rattle.std.proofs.Common.{◌≡◌, ◌∙◌, ◌<◌, ◌≤◌, ℕ, Bool, true, false, List, [], Option, None, Some, ap, arith, codes, if◌then◌else◌, inl, inr, length, nat_le, option_map, sym}
+use Rattle.std.proofs.Common.{◌≡◌, ◌∙◌, ◌<◌, ℕ, Bool, true, false, List, [], Option, None, Some, ap, arith, codes, if◌then◌else◌, inl, inr, length, nat_le, option_map, sym}
 use Rattle.std.proofs.lemmas.Bool.Decides.{leb_tells}
 use Rattle.std.specs.Prelude.{option_and_then}
 use Rattle.clap.specs.Words.{Text, first_of, first_value, matched_of, raw_values, rows_of}
 use Rattle.clap.specs.declared.parser.matches.Found.{Found}
 use Rattle.clap.proofs.WalkLemmas.{first_value-rows, raw_values-rows}
-use Rattle.run_command_line.specs.CommandLine.{Judged, ShownAnswer, ToldOf, asks_verdict, few_texts, given_in, never_in, of_given, shown_given_in, shown_of_text, told_by, told_in, told_where}
+use Rattle.run_command_line.specs.CommandLine.{ShownAnswer, ToldOf, asks_verdict, few_texts, given_in, never_in, of_given, shown_given_in, shown_of_text, told_by, told_in, told_where}
 
 -- more than ten
 pub not_few : (n : ℕ) → 10 < n → nat_le n 10 ≡ false

@@ -87,11 +87,11 @@ live_app = with_rule (with_rule (with_rule (new_app (codes "live")) (number_or (
     (number_or (codes "history") 0 65536 (codes "65536"))) (number_or (codes "workers") 1 64 (codes "64"))
 
 -- `explore FILE --mesh SRC:DST [--mesh ..] [--cancel AFTER] [--states N] [--witness K | --show LINE:ANSWER:PHASE |
--- [--expect FILE] [--never PATTERN ..]] [--progress]`
+-- [--expect FILE] [--never PATTERN ..]] [--allow-no-mesh] [--progress]`
 abbrev pub explore_app : App
-explore_app = with_rule (with_rule (with_rule (with_rule (with_rule (with_rule (with_rule (with_rule (with_rule (new_app (codes "explore")) file_rule) mesh_rule)
+explore_app = with_rule (with_rule (with_rule (with_rule (with_rule (with_rule (with_rule (with_rule (with_rule (with_rule (new_app (codes "explore")) file_rule) mesh_rule)
     (number_rule (codes "cancel") 0 1000)) (number_or (codes "states") 1 10000000 (codes "100000"))) (number_rule (codes "witness") 0 4294967295))
-    (text_rule (codes "show"))) (text_rule (codes "expect"))) (texts_rule (codes "never"))) (flag_rule (codes "progress"))
+    (text_rule (codes "show"))) (text_rule (codes "expect"))) (texts_rule (codes "never"))) (flag_rule (codes "allow-no-mesh"))) (flag_rule (codes "progress"))
 
 -- `check FILE [--configurations N] [--order]`
 abbrev pub check_app : App
@@ -163,12 +163,14 @@ pub data ToldOf : Type 0 where
   tells_verdict : Judged → ToldOf
 
 -- what `explore` is asked for: the meshes, after how many steps each mesh is cancelled, if at all, and the greatest
--- number of states. Then what is printed, and whether the number of states found is printed as well
+-- number of states. Then what is printed, whether a verdict may be positive if a mesh never begins, and whether the
+-- number of states found is printed as well
 pub record Explored : Type 0 where
   pub meshes : List MeshPair
   pub cancel : Option ℕ
   pub states : ℕ
   pub told : ToldOf
+  pub allows_no_mesh : Bool
   pub is_watched : Bool
 
 -- how `check` judges a recorded history: the most configurations that an object may have if calls overlap, and whether
@@ -337,8 +339,9 @@ told_in never rows =
 abbrev pub explored_in : List Text → List Row → Option Explored
 explored_in never rows =
     option_and_then (λ meshes. option_and_then (λ cancel. option_and_then (λ states. option_and_then (λ told.
-    option_map (λ is_watched. record { meshes = meshes; cancel = cancel; states = states; told = told; is_watched = is_watched })
-    (flag_in (codes "progress") rows)) (told_in never rows)) (number_in (codes "states") 1 10000000 rows)) (given_in (codes "cancel") 0 1000 rows)) (meshes_in rows)
+    option_and_then (λ allowed. option_map (λ is_watched.
+    record { meshes = meshes; cancel = cancel; states = states; told = told; allows_no_mesh = allowed; is_watched = is_watched })
+    (flag_in (codes "progress") rows)) (flag_in (codes "allow-no-mesh") rows)) (told_in never rows)) (number_in (codes "states") 1 10000000 rows)) (given_in (codes "cancel") 0 1000 rows)) (meshes_in rows)
 
 -- the seed of `savings`: with `--first-fit` none, otherwise the given seed, or 1 if none is given. The outer `None` is
 -- a seed that isn't in range or that is given together with `--first-fit`
@@ -445,7 +448,14 @@ told_of never (Verdict expect) = tells_verdict (record { expect = option_map (λ
 -- the exploration in parsed arguments, with these patterns
 abbrev pub explored_of : List Text → ExploreArgs → Explored
 explored_of never args =
-    record { meshes = pairs_of args.meshes; cancel = args.cancel; states = args.states; told = told_of never args.told; is_watched = args.is_watched }
+    record {
+      meshes = pairs_of args.meshes;
+      cancel = args.cancel;
+      states = args.states;
+      told = told_of never args.told;
+      allows_no_mesh = args.allows_no_mesh;
+      is_watched = args.is_watched;
+    }
 
 -- the judgement in parsed arguments for `check`
 abbrev pub checked_of : CheckArgs → Checked

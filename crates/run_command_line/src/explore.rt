@@ -5,7 +5,7 @@ ghost use Rattle.run_command_line.specs.Patterns.{texts_of};
 ghost use Rattle.run_command_line.specs.CommandLine.{asking, explore_of, explored_in, explored_of};
 
 use crate::mesh_texts::meshes;
-use crate::options::{CANCEL, PROGRESS, STATES};
+use crate::options::{ALLOW_NO_MESH, CANCEL, PROGRESS, STATES};
 use crate::told::told;
 use crate::values::{is_given, number_if_given, small_number};
 use crate::{Args, ExploreArgs, Patterns};
@@ -34,12 +34,14 @@ fn explored<'a>(matches: &ArgMatches<'a>, never: &Patterns<'a>) -> Option<Explor
     let cancel = number_if_given(matches, CANCEL)?;
     let states = small_number(matches, STATES)?;
     let told = told(matches, never)?;
+    let allows_no_mesh = is_given(matches, ALLOW_NO_MESH)?;
     let is_watched = is_given(matches, PROGRESS)?;
     Some(ExploreArgs {
         meshes,
         cancel,
         states,
         told,
+        allows_no_mesh,
         is_watched,
     })
 }

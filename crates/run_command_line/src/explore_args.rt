@@ -15,6 +15,8 @@ pub struct ExploreArgs<'a> {
     pub states: u32,
     /// The selection of what is printed.
     pub told: Told<'a>,
+    /// Whether a verdict may be positive although some mesh begins in no interleaving.
+    pub allows_no_mesh: bool,
     /// Whether the number of found states is printed on standard error even if standard error is no terminal.
     pub is_watched: bool,
     pub ghost ranges: { AreInRange meshes cancel states },

@@ -24,6 +24,9 @@ pub(crate) const GROUPS: &str = "SRC:DST";
 /// The name of the flag that asks for the number of found states.
 pub(crate) const PROGRESS: &str = "progress";
 
+/// The flag that allows meshes that never begin.
+pub(crate) const ALLOW_NO_MESH: &str = "allow-no-mesh";
+
 /// The name of an option with a number, and the range of the number.
 #[derive(Clone, Copy)]
 pub(crate) struct NumberRange {
@@ -350,6 +353,10 @@ pub(crate) const EXPLORE: Subcommand = Subcommand {
         Argument::Text(SHOW_OPTION),
         Argument::Text(EXPECT_OPTION),
         Argument::Texts(NEVER_OPTION),
+        Argument::Flag(
+            ALLOW_NO_MESH,
+            "Let a verdict be positive although some mesh begins in no interleaving",
+        ),
         Argument::Flag(
             PROGRESS,
             "Print the number of states found on standard error, once a second, even if it is no terminal",

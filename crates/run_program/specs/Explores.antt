@@ -1,5 +1,5 @@
 -- What an exploration prints if it stops, and which device has failed.
-use Rattle.std.specs.Prelude.{◌≡◌, ◌<◌, ◌≤◌, ◌⊎◌, ℕ, ◌+◌, Bool, true, false, List, ◌++◌, Option, Some, None, codes, decimal, map, slice_get, take}
+use Rattle.std.specs.Prelude.{◌≡◌, ◌<◌, ◌≤◌, ◌⊎◌, ℕ, ◌+◌, Bool, true, false, List, ◌++◌, Option, Some, None, codes, decimal, map, not, slice_get, take}
 use Rattle.std.specs.Option.{option_copied}
 use Rattle.run_command_line.specs.declared.explore_args.ExploreArgs.{ExploreArgs}
 use Rattle.run_command_line.specs.declared.explore_args.ShownArgs.{ShownArgs}
@@ -13,14 +13,27 @@ use Rattle.explore_report.specs.declared.errors.ExploreError.TheVariants.{Replay
 use Rattle.explore_report.specs.declared.wanted.Shown.{Shown}
 use Rattle.explore_report.specs.declared.wanted.Wanted.{Wanted}
 use Rattle.explore_report.specs.declared.wanted.Wanted.TheVariants as wanted
-use Rattle.run_program.specs.Runs.{EndsBy, HasFailed, IsDone, IsStoppedFor, MovesBy, Moves, error_text}
+use Rattle.model_jobs.specs.Texts.{ended}
+use Rattle.text_devices.specs.declared.faults.ReplayError.{ReplayError}
+use Rattle.text_devices.specs.declared.faults.ReplayError.TheVariants.{Read}
+use Rattle.run_program.specs.Runs.{EndsBy, HasFailed, HasTold, IsDone, IsStoppedFor, MovesBy, Moves, error_text}
 use Rattle.run_program.specs.Seen.{Seen}
 use Rattle.run_program.specs.declared.criteria.Criteria.{Criteria}
 use Rattle.run_program.specs.Status.{status_of_error}
 use Rattle.run_program.specs.declared.verdict_error.VerdictError.{VerdictError}
-use Rattle.run_program.specs.declared.verdict_error.VerdictError.TheVariants.{Explore, NoPattern}
+use Rattle.run_program.specs.declared.verdict_error.VerdictError.TheVariants.{Explore, NoList, NoPattern, Unmatched}
 use Rattle.explore_verdict.specs.Patterns.{pattern_of, Wanted as Pattern}
-use Rattle.explore_verdict.specs.Runs.{HasJudged}
+use Rattle.explore_verdict.specs.ListFaults.{list_fault_in}
+use Rattle.explore_verdict.specs.Runs.{HasJudged, HasUnmatchable}
+use Rattle.explore_verdict.specs.declared.faults.VerdictFault.{VerdictFault}
+use Rattle.explore_verdict.specs.declared.faults.VerdictFault.TheVariants as fault
+use Rattle.explore_verdict.specs.declared.list_faults.ListFault.{ListFault}
+use Rattle.explore_verdict.specs.declared.list_faults.ListFault.TheVariants.{CarriageReturn, OtherLine, NoOutcome as ListNoOutcome}
+use Rattle.explore_verdict.specs.declared.mismatches.Mismatch.{Mismatch}
+use Rattle.explore_verdict.specs.declared.mismatches.Mismatch.TheVariants.{NoWorker, NoAnswer, TooManyAnswers}
+use Rattle.explore_verdict.specs.declared.mismatches.Unmatchable.{Unmatchable}
+use Rattle.model_jobs.specs.Jobs.{Job}
+use Rattle.text_job.specs.Read.{HasReadJob}
 
 -- an error's line, without its end, and its status. The status is 2 if the file has a fault, or if the outcome or the
 -- answer that was asked for doesn't exist, and 4 if there are too many states. Otherwise it is 1
@@ -72,6 +85,14 @@ pub record IsShownOf (args : ShownArgs) (shown : Shown) : Type 0 where
 
 -- ---- verdicts
 
+-- why the expected outcomes weren't read: the line of an error with this status was printed. If the error is a read
+-- fault, the input has failed
+pub record IsUnreadFor (input_failed errors_failed : Bool) (told told' : Option (List ℕ)) (status : ℕ) : Type 0 where
+  pub error : ReplayError
+  pub is_status : status ≡ status_of_error error
+  pub failed : error ≡ Read → input_failed ≡ true
+  pub line : HasTold errors_failed told told' (ended (error_text error))
+
 -- the texts of the patterns that no outcome may match
 abbrev pub never_of : Criteria → List (List ℕ)
 never_of criteria = map (λ text. text.now) criteria.never.now
@@ -84,23 +105,52 @@ AreSpelt texts patterns = map pattern_of texts ≡ map Some patterns
 abbrev pub HasJudgedBy : ExploreArgs → Criteria → Bool → Moves
 HasJudgedBy args criteria well left left' written written' =
     (never : List Pattern) × AreSpelt (never_of criteria) never
-    × HasJudged (meshes_of args) args.cancel args.states never (option_copied criteria.expected) left left' written written' well
+    × (list_fault_in (option_copied criteria.expected) ≡ None)
+    × HasJudged (meshes_of args) args.cancel args.states (not args.allows_no_mesh) never (option_copied criteria.expected) left left' written written' well
+
+-- the error of a fault of the verdict
+abbrev pub error_of_fault : VerdictFault → VerdictError
+error_of_fault (fault.Explore error) = Explore error
+error_of_fault (fault.NoList fault) = NoList fault
+error_of_fault (fault.Unmatched pattern) = Unmatched pattern
+
+-- why no outcome can match a pattern
+abbrev why_text : Mismatch → List ℕ
+why_text NoWorker = codes ": the job has no such worker"
+why_text NoAnswer = codes ": no command has such an answer"
+why_text TooManyAnswers = codes ": more answers than commands"
+
+-- the line for a pattern that no outcome can match, without its end
+abbrev pub unmatched_text : Unmatchable → List ℕ
+unmatched_text pattern = codes "--never " ++ decimal pattern.number ++ why_text pattern.mismatch
+
+-- the line for a text that is no list of outcomes, without its end
+abbrev pub list_text : ListFault → List ℕ
+list_text (CarriageReturn line) = codes "--expect: line " ++ decimal line ++ codes ": a carriage return"
+list_text (OtherLine line) = codes "--expect: line " ++ decimal line ++ codes ": no line of a listing"
+list_text ListNoOutcome = codes "--expect: no outcome is listed"
 
 -- an error's line, without its end
 abbrev pub verdict_text : ℕ → VerdictError → List ℕ
 verdict_text states (Explore error) = explore_text states error
+verdict_text states (Unmatched pattern) = unmatched_text pattern
+verdict_text states (NoList fault) = list_text fault
 verdict_text states (NoPattern number) = codes "--never " ++ decimal number ++ codes ": no pattern 'worker W: ANSWER | ..'"
 
--- the status of an error that prevents a verdict: 2 for a faulty pattern, otherwise the status of the exploration's
--- error
+-- the status of an error that prevents a verdict: 2 for a pattern or a list that can't be judged, otherwise the status
+-- of the exploration's error
 abbrev pub verdict_status : VerdictError → ℕ
 verdict_status (Explore error) = explore_status error
 verdict_status (NoPattern number) = 2
+verdict_status (Unmatched pattern) = 2
+verdict_status (NoList fault) = 2
 
 -- the device that the error names, if any, has failed
 abbrev pub HasFailedVerdict : Bool → Bool → VerdictError → Type 0
 HasFailedVerdict input output (Explore error) = HasFailedExplore input output error
 HasFailedVerdict input output (NoPattern number) = Unit {0}
+HasFailedVerdict input output (Unmatched pattern) = Unit {0}
+HasFailedVerdict input output (NoList fault) = Unit {0}
 
 -- the text of this number, counted from 1, spells no pattern
 pub record SpellsNone (texts : List (List ℕ)) (number : ℕ) : Type 0 where
@@ -114,12 +164,18 @@ pub record SpellsNone (texts : List (List ℕ)) (number : ℕ) : Type 0 where
 abbrev pub IsUnread : List (List ℕ) → VerdictError → Type 0
 IsUnread texts (Explore error) = error ≡ refused
 IsUnread texts (NoPattern number) = SpellsNone texts number
+IsUnread texts (Unmatched pattern) = ⊥
+IsUnread texts (NoList fault) = ⊥
 
 -- what was read before an exploration stopped for this error without a verdict
 abbrev pub HasStoppedVerdict : ExploreArgs → Criteria → MovesBy VerdictError
 HasStoppedVerdict args criteria left left' written written' (Explore error) =
     HasStoppedExplore (meshes_of args) args.cancel args.states left left' written written' error
 HasStoppedVerdict args criteria left left' written written' (NoPattern number) = SpellsNone (never_of criteria) number
+HasStoppedVerdict args criteria left left' written written' (NoList fault) = list_fault_in (option_copied criteria.expected) ≡ Some fault
+HasStoppedVerdict args criteria left left' written written' (Unmatched pattern) =
+    (job : Job) × (never : List Pattern) × HasReadJob left left' job × AreSpelt (never_of criteria) never
+    × HasUnmatchable (meshes_of args) args.cancel never job pattern
 
 -- a verdict was written, no device failed, and no message was printed
 abbrev pub IsJudged : ExploreArgs → Criteria → Bool → Seen → Seen → Type 0

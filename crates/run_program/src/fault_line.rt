@@ -66,6 +66,20 @@ pub(crate) fn number_line(before: &[u8], number: u32, behind: &[u8]) -> Line
     line
 }
 
+/// A line that consists of `before`, the number of a place in decimal and `behind`, with a line end.
+pub(crate) fn place_line(before: &[u8], place: usize, behind: &[u8]) -> Line
+    requires { length before.now + length behind.now ≤ 51 }
+    ensures { result.items ≡ ended (before.now ++ decimal place ++ behind.now) }
+{
+    let mut digits = Buffer::new();
+    let mut line = Line::new();
+    add(&mut line, before);
+    add(&mut line, digits.format(place).as_bytes());
+    add(&mut line, behind);
+    add(&mut line, b"\n");
+    line
+}
+
 /// Adds the text of a fault.
 fn add_fault(line: &mut Line, fault: TextFault)
     requires { line.old.items ≡ [] }

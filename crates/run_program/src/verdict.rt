@@ -2,15 +2,15 @@
 ghost use Rattle.std.specs.Prelude.{◌≡◌, ◌≤◌, ◌++◌, ◌∷◌, [], Some, false, true, IfErr, IfOk, OnOk, length, map};
 ghost use Rattle.model_jobs.specs.Texts.{ended};
 ghost use Rattle.text_devices.specs.declared.faults.ReplayError.{ReplayError};
-ghost use Rattle.run_program.specs.Explores.{AreSpelt, EndsVerdict, HasFailedVerdict, HasJudgedBy, HasStoppedVerdict, IsUnread, verdict_status, verdict_text};
+ghost use Rattle.run_program.specs.Explores.{AreSpelt, EndsVerdict, HasFailedVerdict, HasJudgedBy, HasStoppedVerdict, IsUnread, IsUnreadFor, list_text, unmatched_text, verdict_status, verdict_text};
 ghost use Rattle.run_program.specs.Runs.{HasTold, IsSound};
 ghost use Rattle.text_devices.specs.Transfer.{HasReadAll};
 
 use crate::explore::{explore_line_of, explore_status_of};
-use crate::fault_line::{Line, number_line};
+use crate::fault_line::{Line, line_with, number_line, place_line};
 use crate::runs::{status_of, tell, tell_error};
 use crate::{Criteria, Devices, ExploreArgs, VerdictError};
-use explore_verdict::{Pattern, VerdictOptions, verdict};
+use explore_verdict::{ListFault, Mismatch, Pattern, Unmatchable, VerdictOptions, verdict};
 use run_command_line::status::{DONE, FAULTY, NEGATIVE};
 use states_reach::Watch;
 use std::alloc::{AllocError, Global};
@@ -24,7 +24,9 @@ pub fn expected_run<I: Source, E: Sink>(
     errors: &mut E,
 ) -> Result<Vec<u8>, u8>
     requires { I.has_failed input.old ≡ false }
-    ensures { IfOk result (λ text. HasReadAll (I.remaining input.old) (I.remaining input.new) text.items) }
+    ensures text { IfOk result (λ text. HasReadAll (I.remaining input.old) (I.remaining input.new) text.items) }
+    ensures unread { IfErr result
+        (IsUnreadFor (I.has_failed input.new) (E.has_failed errors.new) (E.written errors.old) (E.written errors.new)) }
 {
     match read_all(alloc, input) {
         Ok(text) => Ok(text),
@@ -91,6 +93,7 @@ fn write_verdict<I: Source, O: Sink, W: Watch>(
         meshes: args.meshes.as_slice(),
         cancel: args.cancel,
         states: args.states,
+        must_begin: !args.allows_no_mesh,
         never: never.as_slice(),
     };
     let well = verdict(alloc, input, criteria.expected, output, &options, watch)?;
@@ -133,6 +136,35 @@ fn verdict_line_of(error: VerdictError, states: u32) -> Line
             number,
             b": no pattern 'worker W: ANSWER | ..'",
         ),
+        VerdictError::Unmatched(pattern) => unmatched_line(pattern),
+        VerdictError::NoList(fault) => list_line(fault),
+    }
+}
+
+/// The line, with a line end, for a pattern that no outcome can match.
+fn unmatched_line(pattern: Unmatchable) -> Line
+    ensures { result.items ≡ ended (unmatched_text pattern) }
+{
+    let why: &[u8] = match pattern.mismatch {
+        Mismatch::NoWorker => b": the job has no such worker",
+        Mismatch::NoAnswer => b": no command has such an answer",
+        Mismatch::TooManyAnswers => b": more answers than commands",
+    };
+    place_line(b"--never ", pattern.number, why)
+}
+
+/// The line, with a line end, for a text that is no list of outcomes.
+fn list_line(fault: ListFault) -> Line
+    ensures { result.items ≡ ended (list_text fault) }
+{
+    match fault {
+        ListFault::CarriageReturn(line) => {
+            place_line(b"--expect: line ", line, b": a carriage return")
+        }
+        ListFault::OtherLine(line) => {
+            place_line(b"--expect: line ", line, b": no line of a listing")
+        }
+        ListFault::NoOutcome => line_with(b"--expect: no outcome is listed"),
     }
 }
 
@@ -142,6 +174,6 @@ fn verdict_status_of(error: VerdictError) -> u8
 {
     match error {
         VerdictError::Explore(error) => explore_status_of(error),
-        VerdictError::NoPattern(_) => FAULTY,
+        VerdictError::NoPattern(_) | VerdictError::Unmatched(_) | VerdictError::NoList(_) => FAULTY,
     }
 }

@@ -1,35 +1,39 @@
 //! The reasons why a verdict isn't given.
+ghost use Rattle.run_program.specs.Explores.{error_of_fault};
+ghost use Rattle.explore_report.specs.Errors.{refused};
+ghost use Rattle.run_program.specs.declared.verdict_error.VerdictError.TheVariants.{Explore};
+ghost use Rattle.std.specs.Prelude.{◌≡◌};
+
 use explore_report::ExploreError;
+use explore_verdict::{ListFault, Unmatchable, VerdictFault};
 use std::alloc::AllocError;
-use thiserror::Error;
 
 /// The reason why a verdict isn't given.
-#[derive(Clone, Copy, Debug, PartialEq, Eq, Error)]
+#[derive(Clone, Copy, Debug, PartialEq, Eq)]
 pub enum VerdictError {
     /// The text of the `--never` with this number, counted from 1, is no pattern.
-    #[error("--never {0}: no pattern 'worker W: ANSWER | ..'")]
     NoPattern(u32),
+    /// No outcome of the job can match the pattern of a `--never`.
+    Unmatched(Unmatchable),
+    /// The text of `--expect` is no list of outcomes.
+    NoList(ListFault),
     /// The exploration stopped.
-    #[error("{0}")]
     Explore(ExploreError),
 }
 
-impl From<ExploreError> for VerdictError {
-    ghost use Rattle.std.specs.Prelude.{◌≡◌};
-    ghost use Rattle.run_program.specs.declared.verdict_error.VerdictError.TheVariants.{Explore};
+impl From<VerdictFault> for VerdictError {
+    ghost from_gives = { λ fault error. error ≡ error_of_fault fault };
 
-    ghost from_gives = { λ error fault. fault ≡ Explore error };
-
-    fn from(error: ExploreError) -> VerdictError {
-        VerdictError::Explore(error)
+    fn from(fault: VerdictFault) -> VerdictError {
+        match fault {
+            VerdictFault::Explore(error) => VerdictError::Explore(error),
+            VerdictFault::NoList(fault) => VerdictError::NoList(fault),
+            VerdictFault::Unmatched(pattern) => VerdictError::Unmatched(pattern),
+        }
     }
 }
 
 impl From<AllocError> for VerdictError {
-    ghost use Rattle.std.specs.Prelude.{◌≡◌};
-    ghost use Rattle.explore_report.specs.Errors.{refused};
-    ghost use Rattle.run_program.specs.declared.verdict_error.VerdictError.TheVariants.{Explore};
-
     ghost from_gives = { λ _ fault. fault ≡ Explore refused };
 
     fn from(error: AllocError) -> VerdictError {

@@ -1,4 +1,7 @@
-"""The explorations of jobs/explore, each with its options (.args) and with another engine's listing (.out)."""
+"""The explorations of jobs/explore, each with its options (.args) and with another engine's listing (.out).
+
+The other engine also tells of meshes that begin in no interleaving (.unbegun).
+"""
 
 import pathlib
 import re
@@ -57,7 +60,11 @@ def exploration(suite, job):
     outcomes = outcomes_in(listing)
     suite.check(name, 0, listing, NOTHING, *words)
     verdict = line(f"as expected: {len(outcomes)} outcomes")
-    suite.check(f"{name}, as expected", 0, verdict, NOTHING, *words, "--expect", listing)
+    unbegun = job.with_suffix(".unbegun")
+    allowed = ["--allow-no-mesh"] if unbegun.exists() else []
+    suite.check(f"{name}, as expected", 0, verdict, NOTHING, *words, "--expect", listing, *allowed)
+    if unbegun.exists():
+        suite.check(f"{name}, a mesh that never begins", 3, unbegun, NOTHING, *words, "--expect", listing)
     first = len(outcomes) - 1 if job.stem == LONG_LISTING else 0
     for number, outcome in list(enumerate(outcomes))[first:]:
         witness(suite, f"{name}, outcome {number}", job, outcome, [*words, "--witness", number])
@@ -123,11 +130,9 @@ def verdicts(suite):
 
     listed = suite.write("listed", first + b"outcome\n" + other)
     check("another outcome", 3, b"missing:\n" + other + reported("unexpected", 1), "--expect", listed)
-    empty = suite.write("empty", b"")
-    check("no outcome expected", 3, reported("unexpected", 0) + reported("unexpected", 1), "--expect", empty)
     check("never worker 1: bytes 00", 3, reported("never", 1), "--never", "worker 1: bytes 00")
     listed = suite.write("listed", first)
-    patterns = "--never", "worker 9: *", "--never", "worker 0: * | bytes aa"
+    patterns = "--never", "worker 1: byte 00", "--never", "worker 0: * | bytes aa"
     check("both at once", 3, reported("unexpected", 1) + reported("never", 0), "--expect", listed, *patterns)
 
 

@@ -1,4 +1,4 @@
-use Rattle.std.proofs.Common.{◌≡◌, ◌<◌, ◌≤◌, arith, length}
+use Rattle.std.proofs.Common.{◌<◌, ◌≤◌, arith, length}
 use Rattle.states_pool.specs.Pool.{IsAbsent}
 use Rattle.explore_verdict.proofs.Sets.{absent_all, absent_more, absent_once}
 use Rattle.explore_verdict.proofs.compared.absent.Goals as goal

@@ -1,4 +1,4 @@
-use Rattle.std.proofs.Common.{◌∙◌, List, Some, option_map, ap}
+use Rattle.std.proofs.Common.{◌∙◌, List, option_map, ap}
 use Rattle.std.specs.Prelude.{option_and_then}
 use Rattle.clap.specs.Words.{Text, found_of, rows_of, subcommand_rows_of}
 use Rattle.run_command_line.specs.CommandLine.{asked_with, asking_of}

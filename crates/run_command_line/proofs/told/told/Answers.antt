@@ -1,4 +1,4 @@
-use Rattle.std.proofs.Common.{◌∙◌, None, Some, ap, option_map}
+use Rattle.std.proofs.Common.{◌∙◌, ap, option_map}
 use Rattle.clap.specs.Words.{found_of}
 use Rattle.run_command_line.specs.CommandLine.{shown_answer_of, told_of}
 use Rattle.run_command_line.specs.Patterns.{texts_of}

@@ -15,7 +15,7 @@ returns-in-Ok-Some g c =
     let told = subst (λ (text : List ℕ). HasTold after.errors_failed before.told after.told text) (c.as_slice.ensures.value ∙ c.used_up_line.ensures) c.tell.ensures in
     let written = subst (HasWrittenReport c.options_of-options.result before.left after.left before.written after.written) c.in-Ok-Some.field-0-is
     c.in-Ok-Some.ensures.written in
-    rw (← c.options_of-options.ensures) (subst (λ (s : Seen). EndsSavings c.options_of-options.result s after 1) c.devices.view_is
+    rw (← c.options_of-options.ensures) (subst (λ (s : Seen). EndsSavings c.options_of-options.result s after 4) c.devices.view_is
     (used_up_ends c.options_of-options.result before after c.in-Ok-Some.call written
     (record { input = c.in-Ok-Some.ensures.ok.0; output = c.in-Ok-Some.ensures.ok.1 }) told))
 

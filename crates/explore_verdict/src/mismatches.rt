@@ -1,0 +1,139 @@
+//! Finds patterns that no outcome can match.
+ghost use Rattle.std.specs.Prelude.{◌≡◌, ◌<◌, Some, None, IfSome, IsNone, length, slice_get};
+ghost use Rattle.std.specs.List.{list_all};
+ghost use Rattle.explore_verdict.specs.Mismatches.{AreMatchable, IsUnmatchable, commands_left, first_mismatch, inner, is_answer, is_spelt, mismatch_of};
+
+use crate::block::Block;
+use crate::pattern::Pattern;
+use explore_interleavings::{Explorer, StateAt};
+use states_reach::Reached;
+use text_fields::lines::{fields_up_to, is_word};
+use text_job::Job;
+use text_words::reply_of;
+
+/// The greatest number of fields of an answer.
+const MOST_FIELDS: usize = 4;
+
+/// Why no outcome of a job can match a pattern.
+#[derive(Clone, Copy, Debug, PartialEq, Eq)]
+pub enum Mismatch {
+    /// The job has no such worker.
+    NoWorker,
+    /// Some answer of the pattern is none that a command can have.
+    NoAnswer,
+    /// The pattern has more answers than the worker has commands.
+    TooManyAnswers,
+}
+
+/// A pattern that no outcome can match.
+#[derive(Clone, Copy, Debug, PartialEq, Eq)]
+pub struct Unmatchable {
+    /// The number of the pattern, counted from 1.
+    pub number: usize,
+    /// Why no outcome can match it.
+    pub mismatch: Mismatch,
+}
+
+/// Returns the first pattern that no outcome can match, or `None` if outcomes can match each.
+pub(crate) fn unmatchable_in(
+    reached: &Reached<Explorer<'_>>,
+    patterns: &[Pattern],
+) -> Option<Unmatchable>
+    ensures some { IfSome result (IsUnmatchable reached.now.system.setting reached.now.system.states patterns.now) }
+    ensures none { IsNone result → AreMatchable reached.now.system.setting reached.now.system.states patterns.now }
+{
+    match reached.system.at(0) {
+        Some(state) => first_mismatch(&state, patterns),
+        None => None,
+    }
+}
+
+/// Returns the first pattern that no outcome can match, or `None` if outcomes can match each. `state` is the initial
+/// state.
+fn first_mismatch(state: &StateAt<'_>, patterns: &[Pattern]) -> Option<Unmatchable>
+    ensures { result ≡ first_mismatch state.now.setting state.now.state 1 patterns.now }
+{
+    let mut number = 1;
+    let mut rest = patterns;
+    while let [pattern, behind @ ..] = rest {
+        if let Some(mismatch) = mismatch_of(state, pattern) {
+            return Some(Unmatchable { number, mismatch });
+        }
+        number += 1;
+        rest = behind;
+    }
+    None
+}
+
+/// Returns why no outcome can match a pattern, or `None` if some outcome may.
+fn mismatch_of(state: &StateAt<'_>, pattern: &Pattern) -> Option<Mismatch>
+    ensures { result ≡ mismatch_of state.now.setting state.now.state pattern.now }
+{
+    let job: &Job = state.setting().job;
+    let worker = pattern.worker();
+    if job.scripts.count() <= worker as usize {
+        return Some(Mismatch::NoWorker);
+    }
+    if !are_answers(pattern.pieces()) {
+        return Some(Mismatch::NoAnswer);
+    }
+    if commands_left(state, worker) < pattern.pieces().len() {
+        Some(Mismatch::TooManyAnswers)
+    } else {
+        None
+    }
+}
+
+/// The number of commands that are left for a worker.
+fn commands_left(state: &StateAt<'_>, worker: u32) -> usize
+    requires { worker < length state.now.setting.job.scripts }
+    ensures { result ≡ commands_left state.now.setting state.now.state worker }
+{
+    let job: &Job = state.setting().job;
+    job.scripts
+        .of(worker)
+        .len()
+        .saturating_sub(state.place_of(worker))
+}
+
+/// Whether a reply can match each piece.
+fn are_answers(pieces: &[Block]) -> bool
+    ensures { result ≡ list_all is_answer pieces.now }
+{
+    for piece in pieces {
+        if !is_answer(piece.as_slice()) {
+            return false;
+        }
+    }
+    true
+}
+
+/// Whether a reply can match the piece: it is ` * `, or an answer between two spaces.
+fn is_answer(piece: &[u8]) -> bool
+    ensures { result ≡ is_answer piece.now }
+{
+    is_word(piece, b" * ") || is_spelt(inner(piece))
+}
+
+/// The text of a piece without the bytes at its ends.
+fn inner(piece: &[u8]) -> &[u8]
+    ensures { result.now ≡ inner piece.now }
+{
+    match piece {
+        [_, inner @ .., _] => inner,
+        _ => &[],
+    }
+}
+
+/// Whether the text spells an answer.
+fn is_spelt(text: &[u8]) -> bool
+    ensures { result ≡ is_spelt text.now }
+{
+    let Ok(fields) = fields_up_to::<MOST_FIELDS>(text) else {
+        return false;
+    };
+    match fields.as_slice() {
+        [word, behind @ ..] => reply_of(word, behind).is_ok(),
+        [] => false,
+    }
+}
