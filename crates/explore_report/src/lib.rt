@@ -38,7 +38,7 @@ mod wanted;
 pub use errors::ExploreError;
 pub use listing::{Exploration, Listing, explored_and_listed, listed};
 pub use notes::{Note, PhaseAt};
-pub use outcome_text::add_plan;
+pub use outcome_text::{add_outcome, printed_order};
 pub use outcomes::Outcome;
 pub use phase::{LastStep, phase_at};
 pub use run::{ExploreOptions, explore, summary};

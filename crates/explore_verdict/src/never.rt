@@ -69,7 +69,7 @@ fn any_match(alloc: Global, told: &[Told], patterns: &[Pattern]) -> Result<bool,
 }
 
 /// Whether the workers' replies match a pattern.
-fn is_match(alloc: Global, told: &[Told], pattern: &Pattern) -> Result<bool, AllocError>
+pub(crate) fn is_match(alloc: Global, told: &[Told], pattern: &Pattern) -> Result<bool, AllocError>
     ensures { IfOk result (λ is. is ≡ is_match pattern.now told.now) }
 {
     are_met(

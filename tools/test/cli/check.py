@@ -46,8 +46,8 @@ def allocator(suite):
     suite.check("check: its history", 0, line("legal 18089 entries"), NOTHING, "check", history)
     history = suite.write("bug.history", execute([slots, 3, "--bug"]).output)
     name = "check: its history with a bug"
-    suite.check(name, 1, line(LOST_STORE), NOTHING, "check", history)
-    suite.check(f"{name}, on standard input", 1, line(LOST_STORE), NOTHING, "check", "-", stdin=history)
+    suite.check(name, 3, line(LOST_STORE), NOTHING, "check", history)
+    suite.check(f"{name}, on standard input", 3, line(LOST_STORE), NOTHING, "check", "-", stdin=history)
 
 
 def overlapping(suite, history):

@@ -20,8 +20,9 @@ ON_STORE = "explore", STORE, "--mesh", "1:0"
 
 
 class Outcome(typing.NamedTuple):
-    """An outcome of a listing: its lines of answers, and the lines of its plan."""
+    """An outcome of a listing: its lines, those of its answers, and the lines of its plan."""
 
+    block: list
     answers: list
     plan: list
 
@@ -30,10 +31,10 @@ def outcomes_in(listing):
     """The outcomes of a listing, in order."""
     found = []
     for block in listing.read_text().split("\noutcome ")[1:]:
-        rows = block.splitlines()[1:]
+        rows = f"outcome {block}".splitlines()
         answers = [row for row in rows if row.startswith("  worker ")]
         plans = [row.removeprefix("  plan: ") for row in rows if row.startswith("  plan: ")]
-        found.append(Outcome(answers, [step for plan in plans for step in plan.split(", ")]))
+        found.append(Outcome(rows, answers, [step for plan in plans for step in plan.split(", ")]))
     return found
 
 
@@ -116,7 +117,7 @@ def verdicts(suite):
     other = second.replace(b"bytes 00", b"bytes bb")
 
     def reported(word, number):
-        return lines([f"{word}:", *outcomes[number].answers, f"  plan: {', '.join(outcomes[number].plan)}"])
+        return lines([f"{word}", *outcomes[number].block])
 
     def check(name, status, output, *words, **streams):
         suite.check(f"explore: {name}", status, output, NOTHING, *ON_STORE, *words, **streams)
@@ -129,11 +130,12 @@ def verdicts(suite):
     check("outcomes without the last end", 0, expected, "--expect", cut)
 
     listed = suite.write("listed", first + b"outcome\n" + other)
-    check("another outcome", 3, b"missing:\n" + other + reported("unexpected", 1), "--expect", listed)
-    check("never worker 1: bytes 00", 3, reported("never", 1), "--never", "worker 1: bytes 00")
+    check("another outcome", 3, b"missing:\n" + other + reported("unexpected:", 1), "--expect", listed)
+    check("never worker 1: bytes 00", 3, reported("never 1: 1 of 2 outcomes", 1), "--never", "worker 1: bytes 00")
     listed = suite.write("listed", first)
     patterns = "--never", "worker 1: byte 00", "--never", "worker 0: * | bytes aa"
-    check("both at once", 3, reported("unexpected", 1) + reported("never", 0), "--expect", listed, *patterns)
+    both = reported("unexpected:", 1) + reported("never 2: 2 of 2 outcomes", 0)
+    check("both at once", 3, both, "--expect", listed, *patterns)
 
 
 def progress(suite):

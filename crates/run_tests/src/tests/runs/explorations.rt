@@ -22,7 +22,7 @@ const LISTED: &str =
 
 /// The verdict on the small exploration if its second outcome is forbidden.
 const FORBIDDEN: &str =
-    "never:\n  worker 0: done | bytes aa\n  worker 1: bytes 00\n  plan: run 1, run 0, run 0, begin 1 0, step, step, step, step, step, step\n";
+    "never 1: 1 of 2 outcomes\noutcome 1 of 44 interleavings\n  worker 0: done | bytes aa\n  worker 1: bytes 00\n  end: mesh 1:0 over\n  plan: run 1, run 0, run 0, begin 1 0, step, step, step, step, step, step\n";
 
 /// Runs the small exploration with a mesh of the groups 1 and 0. `line` is the command line, with a `/` between two
 /// words.
