@@ -1,12 +1,12 @@
 -- Why no outcome of a job can match a pattern. This project's own choice.
-use Rattle.std.specs.Prelude.{◌≡◌, ℕ, ◌+◌, ◌-◌, Bool, not, ◌&&◌, ◌||◌, if◌then◌else◌, nat_le, nat_lt, List, [], ◌∷◌, Option, Some, None, codes, drop, is_ok, length, option_map, slice_get, slice_index, take}
+use Rattle.std.specs.Prelude.{◌≡◌, ℕ, ◌+◌, ◌-◌, Bool, not, ◌&&◌, ◌||◌, if◌then◌else◌, nat_le, nat_lt, List, [], ◌∷◌, Option, Some, None, codes, is_ok, length, option_map, slice_get, slice_index}
 use Rattle.std.specs.List.{list_all, list_any}
 use Rattle.std.specs.Option.{option_or}
 use Rattle.model_jobs.specs.JobFiles.{are_same, is_empty}
 use Rattle.text_fields.specs.Lines.{line_fields}
 use Rattle.text_words.specs.ReplyWords.{answer_in}
 use Rattle.explore_interleavings.specs.ExploreStates.{ExploreState, Setting, script_of}
-use Rattle.explore_verdict.specs.Patterns.{Wanted}
+use Rattle.explore_verdict.specs.Patterns.{Clause, Wanted, inner}
 use Rattle.explore_verdict.specs.declared.mismatches.Mismatch.{Mismatch}
 use Rattle.explore_verdict.specs.declared.mismatches.Unmatchable.{Unmatchable}
 use Rattle.explore_verdict.specs.declared.mismatches.Mismatch.TheVariants.{NoWorker, NoAnswer, TooManyAnswers}
@@ -15,25 +15,36 @@ use Rattle.explore_verdict.specs.declared.mismatches.Mismatch.TheVariants.{NoWor
 abbrev pub is_spelt : List ℕ → Bool
 is_spelt text = not (list_any is_empty (line_fields text)) && (nat_le (length (line_fields text)) 4 && is_ok (answer_in (line_fields text)))
 
--- the text of a piece, without the spaces before and after it
-abbrev pub inner : List ℕ → List ℕ
-inner piece = take (length piece - 2) (drop 1 piece)
+-- whether the text stands for any answer, or for any answer of this word
+abbrev pub is_any : List ℕ → Bool
+is_any text =
+    are_same text (codes "*") || (are_same text (codes "bytes *") || (are_same text (codes "byte *") || (are_same text (codes "at *")
+    || (are_same text (codes "object *") || are_same text (codes "refused *")))))
 
--- whether a reply can match the piece: it is ` * `, or an answer between two spaces
+-- whether a reply can match the piece: an answer, or what stands for any, between two spaces
 abbrev pub is_answer : List ℕ → Bool
-is_answer piece = are_same piece (codes " * ") || is_spelt (inner piece)
+is_answer piece = is_any (inner piece) || is_spelt (inner piece)
 
 -- the number of commands that are left for a worker in a state
 abbrev pub commands_left : Setting → ExploreState → ℕ → ℕ
 commands_left x s worker = length (script_of x worker) - slice_index s.places worker
 
--- why no outcome can match the pattern, if this is the initial state: there is no such worker, some piece is no answer,
+-- why no outcome can match the clause, if this is the initial state: there is no such worker, some piece is no answer,
 -- or there are more pieces than commands
-abbrev pub mismatch_of : Setting → ExploreState → Wanted → Option Mismatch
-mismatch_of x s wanted =
-    if nat_le (length x.job.scripts) wanted.worker then Some NoWorker
-    else (if list_all is_answer wanted.pieces then (if nat_lt (commands_left x s wanted.worker) (length wanted.pieces) then Some TooManyAnswers else None)
+abbrev pub clause_mismatch : Setting → ExploreState → Clause → Option Mismatch
+clause_mismatch x s clause =
+    if nat_le (length x.job.scripts) clause.worker then Some NoWorker
+    else (if list_all is_answer clause.pieces then (if nat_lt (commands_left x s clause.worker) (length clause.pieces) then Some TooManyAnswers else None)
     else Some NoAnswer)
+
+-- why no outcome can match all of these clauses
+abbrev pub mismatch_in : Setting → ExploreState → List Clause → Option Mismatch
+mismatch_in x s [] = None
+mismatch_in x s (clause ∷ clauses) = option_or (clause_mismatch x s clause) (mismatch_in x s clauses)
+
+-- why no outcome can match the pattern
+abbrev pub mismatch_of : Setting → ExploreState → Wanted → Option Mismatch
+mismatch_of x s wanted = mismatch_in x s wanted.clauses
 
 -- the first pattern that no outcome can match. The first pattern has this number
 abbrev pub first_mismatch : Setting → ExploreState → ℕ → List Wanted → Option Unmatchable

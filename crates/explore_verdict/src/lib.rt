@@ -5,6 +5,7 @@
 
 pub mod begun;
 mod block;
+mod clause;
 mod compared;
 mod expected;
 mod faults;

@@ -1,10 +1,11 @@
 //! Finds patterns that no outcome can match.
 ghost use Rattle.std.specs.Prelude.{◌≡◌, ◌<◌, Some, None, IfSome, IsNone, length, slice_get};
 ghost use Rattle.std.specs.List.{list_all};
-ghost use Rattle.explore_verdict.specs.Mismatches.{AreMatchable, IsUnmatchable, commands_left, first_mismatch, inner, is_answer, is_spelt, mismatch_of};
+ghost use Rattle.explore_verdict.specs.Mismatches.{AreMatchable, IsUnmatchable, clause_mismatch, commands_left, first_mismatch, is_answer, is_any, is_spelt, mismatch_in, mismatch_of};
 
 use crate::block::Block;
-use crate::pattern::Pattern;
+use crate::clause::Clause;
+use crate::pattern::{Pattern, inner};
 use explore_interleavings::{Explorer, StateAt};
 use states_reach::Reached;
 use text_fields::lines::{fields_up_to, is_word};
@@ -69,15 +70,37 @@ fn first_mismatch(state: &StateAt<'_>, patterns: &[Pattern]) -> Option<Unmatchab
 fn mismatch_of(state: &StateAt<'_>, pattern: &Pattern) -> Option<Mismatch>
     ensures { result ≡ mismatch_of state.now.setting state.now.state pattern.now }
 {
+    mismatch_in(state, pattern.clauses())
+}
+
+/// Returns why no outcome can match all of these clauses, or `None` if some outcome may. The reason is that of the
+/// first clause that has one.
+fn mismatch_in(state: &StateAt<'_>, clauses: &[Clause]) -> Option<Mismatch>
+    ensures { result ≡ mismatch_in state.now.setting state.now.state clauses.now }
+{
+    let mut rest = clauses;
+    while let [clause, behind @ ..] = rest {
+        if let Some(mismatch) = clause_mismatch(state, clause) {
+            return Some(mismatch);
+        }
+        rest = behind;
+    }
+    None
+}
+
+/// Returns why no outcome can match a clause, or `None` if some outcome may.
+fn clause_mismatch(state: &StateAt<'_>, clause: &Clause) -> Option<Mismatch>
+    ensures { result ≡ clause_mismatch state.now.setting state.now.state clause.now }
+{
     let job: &Job = state.setting().job;
-    let worker = pattern.worker();
+    let worker = clause.worker();
     if job.scripts.count() <= worker as usize {
         return Some(Mismatch::NoWorker);
     }
-    if !are_answers(pattern.pieces()) {
+    if !are_answers(clause.pieces()) {
         return Some(Mismatch::NoAnswer);
     }
-    if commands_left(state, worker) < pattern.pieces().len() {
+    if commands_left(state, worker) < clause.pieces().len() {
         Some(Mismatch::TooManyAnswers)
     } else {
         None
@@ -108,21 +131,23 @@ fn are_answers(pieces: &[Block]) -> bool
     true
 }
 
-/// Whether a reply can match the piece: it is ` * `, or an answer between two spaces.
+/// Whether a reply can match the piece: an answer, or what stands for any, between two spaces.
 fn is_answer(piece: &[u8]) -> bool
     ensures { result ≡ is_answer piece.now }
 {
-    is_word(piece, b" * ") || is_spelt(inner(piece))
+    is_any(inner(piece)) || is_spelt(inner(piece))
 }
 
-/// The text of a piece without the bytes at its ends.
-fn inner(piece: &[u8]) -> &[u8]
-    ensures { result.now ≡ inner piece.now }
+/// Whether the text stands for any answer, or for any answer of a word.
+fn is_any(text: &[u8]) -> bool
+    ensures { result ≡ is_any text.now }
 {
-    match piece {
-        [_, inner @ .., _] => inner,
-        _ => &[],
-    }
+    is_word(text, b"*")
+        || is_word(text, b"bytes *")
+        || is_word(text, b"byte *")
+        || is_word(text, b"at *")
+        || is_word(text, b"object *")
+        || is_word(text, b"refused *")
 }
 
 /// Whether the text spells an answer.

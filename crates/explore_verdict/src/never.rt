@@ -1,10 +1,12 @@
 //! Finds the first outcome, among those of a listing, that matches a pattern.
 ghost use Rattle.std.specs.Prelude.{◌≡◌, ◌<◌, [], ℕ, None, IfOk, IfSome, length, slice_index_or};
+ghost use Rattle.std.specs.List.{list_all};
 ghost use Rattle.explore_verdict.specs.Judged.{HaveStates};
 ghost use Rattle.explore_verdict.specs.Never.{IsForbidden, IsMatchAt};
-ghost use Rattle.explore_verdict.specs.Patterns.{any_match, are_met, is_match, is_met};
+ghost use Rattle.explore_verdict.specs.Patterns.{any_match, are_met, is_begun_by, is_clause_met, is_match, is_met};
 
 use crate::block::Block;
+use crate::clause::Clause;
 use crate::judging::outcome_at;
 use crate::pattern::Pattern;
 use explore_interleavings::{Explorer, Told};
@@ -72,10 +74,29 @@ fn any_match(alloc: Global, told: &[Told], patterns: &[Pattern]) -> Result<bool,
 pub(crate) fn is_match(alloc: Global, told: &[Told], pattern: &Pattern) -> Result<bool, AllocError>
     ensures { IfOk result (λ is. is ≡ is_match pattern.now told.now) }
 {
+    are_clauses_met(alloc, told, pattern.clauses())
+}
+
+/// Whether the workers' replies are those of each clause.
+fn are_clauses_met(alloc: Global, told: &[Told], clauses: &[Clause]) -> Result<bool, AllocError>
+    ensures { IfOk result (λ is. is ≡ list_all (is_clause_met told.now) clauses.now) }
+{
+    for clause in clauses {
+        if !is_clause_met(alloc, told, clause)? {
+            return Ok(false);
+        }
+    }
+    Ok(true)
+}
+
+/// Whether the replies of a worker are those of a clause.
+fn is_clause_met(alloc: Global, told: &[Told], clause: &Clause) -> Result<bool, AllocError>
+    ensures { IfOk result (λ is. is ≡ is_clause_met told.now clause.now) }
+{
     are_met(
         alloc,
-        pattern.pieces(),
-        replies_of(told, pattern.worker() as usize),
+        clause.pieces(),
+        replies_of(told, clause.worker() as usize),
     )
 }
 
@@ -108,16 +129,21 @@ fn are_met(alloc: Global, pieces: &[Block], replies: &[Reply]) -> Result<bool, A
     Ok(replies.is_empty())
 }
 
-/// Whether the piece is the reply's text with a space before and after it, or is ` * `, which matches any reply.
+/// Whether the piece is the reply's text with a space before and after it, or a beginning of this text and a star, as
+/// ` bytes * ` or ` * `.
 fn is_met(alloc: Global, piece: &[u8], reply: &Reply) -> Result<bool, AllocError>
     ensures { IfOk result (λ is. is ≡ is_met piece.now reply.now) }
 {
-    if is_word(piece, b" * ") {
-        return Ok(true);
-    }
     let mut text = Vec::new(alloc);
     text.push(b' ')?;
     add_reply(&mut text, reply)?;
     text.push(b' ')?;
-    Ok(is_word(piece, text.as_slice()))
+    Ok(is_word(piece, text.as_slice()) || is_begun_by(piece, text.as_slice()))
+}
+
+/// Whether the piece ends with a star, and the text begins as the piece does before the star.
+fn is_begun_by(piece: &[u8], text: &[u8]) -> bool
+    ensures { result ≡ is_begun_by piece.now text.now }
+{
+    piece.ends_with(b"* ") && text.starts_with(&piece[..piece.len() - 2])
 }

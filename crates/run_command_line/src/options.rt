@@ -243,7 +243,7 @@ pub(crate) const NEVER: &str = "never";
 const NEVER_OPTION: TextOption = TextOption {
     name: NEVER,
     value: "PATTERN",
-    help: "Print the first outcome that matches 'worker W: ANSWER | ANSWER ..', where * is any answer; up to 10 times",
+    help: "Let no outcome match 'worker W: ANSWER | ..', or several with ' & ' between them; * is any answer; up to 10 times",
 };
 
 pub(crate) const CONFIGURATIONS: NumberRange = NumberRange {

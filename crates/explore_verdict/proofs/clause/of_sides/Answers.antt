@@ -1,7 +1,7 @@
 use Rattle.std.proofs.Common.{List, ℕ, ◌∙◌, sym}
 use Rattle.std.specs.Borrow.{Bor}
 use Rattle.explore_verdict.proofs.Colons.{two_colons}
-use Rattle.explore_verdict.proofs.pattern.of_sides.Goals as goal
+use Rattle.explore_verdict.proofs.clause.of_sides.Goals as goal
 
 pub returns-then-is_some : goal.returns-then-is_some
 returns-then-is_some c =
