@@ -5,3 +5,4 @@ pub mod Runs
 pub mod Sets
 pub mod Texts
 pub mod Verdicts
+pub mod WrittenLines

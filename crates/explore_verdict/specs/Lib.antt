@@ -7,3 +7,4 @@ pub mod Mismatches
 pub mod Never
 pub mod Patterns
 pub mod Runs
+pub mod Unseen

@@ -24,6 +24,7 @@ use Rattle.explore_verdict.specs.declared.run.Ended.TheVariants.{Told, Unmatched
 use Rattle.explore_verdict.specs.Judged.{AreAsExpected}
 use Rattle.explore_verdict.specs.Never.{IsForbidden}
 use Rattle.explore_verdict.specs.Patterns.{Wanted}
+use Rattle.explore_verdict.specs.Unseen.{unseen_lines}
 
 -- if there is a text, the outcomes are those that it lists
 abbrev pub MeetExpected : List ExploreState → List Outcome → Option (List ℕ) → Type 0
@@ -45,8 +46,12 @@ abbrev pub well_line : Option (List ℕ) → ℕ → List ℕ
 well_line None count = ended (codes "never: none of " ++ decimal count ++ codes " outcomes")
 well_line (Some text) count = ended (codes "as expected: " ++ decimal count ++ codes " outcomes")
 
+-- the text that is written if all is well: the line of `well_line`, and the lines for answers that occur in no outcome
+abbrev pub well_text : List ExploreState → List Outcome → List Wanted → Option (List ℕ) → List ℕ
+well_text states outcomes never expected = well_line expected (length outcomes) ++ unseen_lines states outcomes 1 never
+
 -- `well` is the verdict on a complete listing of the job's outcomes, with these meshes and this cancel, in at most
--- `most` states. If all is well, the text is the line of `well_line`. If some mesh must begin and begins in no
+-- `most` states. If all is well, the text is that of `well_text`. If some mesh must begin and begins in no
 -- interleaving, the text is the lines of these meshes
 pub record IsVerdictOf (pairs : List MeshPair) (cancel : Option ℕ) (most : ℕ) (must : Bool) (never : List Wanted) (expected : Option (List ℕ)) (job : Job) (well : Bool) (text : List ℕ) : Type 0 where
   pub reached : Reached Explorer
@@ -55,7 +60,7 @@ pub record IsVerdictOf (pairs : List MeshPair) (cancel : Option ℕ) (most : ℕ
   pub listing : Listing
   pub lists : ListsAll (record { job = job; pairs = pairs; cancel = cancel }) reached.system.states listing
   pub is_well : (well ≡ true) ↔ IsWellBegun reached.system.states listing pairs must never expected
-  pub line : well ≡ true → text ≡ well_line expected (length listing.outcomes.items)
+  pub line : well ≡ true → text ≡ well_text reached.system.states listing.outcomes.items never expected
   pub matchable : AreMatchable (record { job = job; pairs = pairs; cancel = cancel }) reached.system.states never
   pub unbegun : (unbegun_text listing.phases.items (must_begin must pairs) ≡ [] → ⊥) → text ≡ unbegun_text listing.phases.items (must_begin must pairs)
 

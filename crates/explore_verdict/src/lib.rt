@@ -16,6 +16,7 @@ mod never;
 mod pattern;
 mod report;
 mod run;
+mod unseen;
 
 pub use block::Block;
 pub use faults::VerdictFault;

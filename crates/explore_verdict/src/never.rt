@@ -101,7 +101,7 @@ fn is_clause_met(alloc: Global, told: &[Told], clause: &Clause) -> Result<bool, 
 }
 
 /// The replies of a worker. Empty if there is no such worker.
-fn replies_of(told: &[Told], worker: usize) -> &[Reply]
+pub(crate) fn replies_of(told: &[Told], worker: usize) -> &[Reply]
     ensures { result.now ≡ slice_index_or told.now worker [] }
 {
     match told.get(worker) {
@@ -131,7 +131,7 @@ fn are_met(alloc: Global, pieces: &[Block], replies: &[Reply]) -> Result<bool, A
 
 /// Whether the piece is the reply's text with a space before and after it, or a beginning of this text and a star, as
 /// ` bytes * ` or ` * `.
-fn is_met(alloc: Global, piece: &[u8], reply: &Reply) -> Result<bool, AllocError>
+pub(crate) fn is_met(alloc: Global, piece: &[u8], reply: &Reply) -> Result<bool, AllocError>
     ensures { IfOk result (λ is. is ≡ is_met piece.now reply.now) }
 {
     let mut text = Vec::new(alloc);
