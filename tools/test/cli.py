@@ -15,7 +15,21 @@ import pathlib
 import sys
 import tempfile
 
-from cli import check, command_line, draw, explore, histories, live, overlaps, record, replay, savings, tables, threads
+from cli import (
+    check,
+    command_line,
+    draw,
+    explore,
+    histories,
+    live,
+    overlaps,
+    pages,
+    record,
+    replay,
+    savings,
+    tables,
+    threads,
+)
 from cli.suite import Suite
 
 TOP = pathlib.Path(__file__).resolve().parents[2]
@@ -32,6 +46,7 @@ TESTED = {
     "record": record,
     "savings": savings,
     "command_line": command_line,
+    "pages": pages,
 }
 
 
