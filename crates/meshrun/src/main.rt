@@ -14,7 +14,8 @@
 //! all scripts' commands.
 #![tactic(auto)]
 
-ghost use Rattle.std.specs.Prelude.{◌≡◌, false};
+ghost use Rattle.std.specs.Prelude.{◌≡◌, false, option_map};
+ghost use Rattle.meshrun.specs.Paths.{file_at, file_of};
 ghost use Rattle.run_program.specs.Runs.{IsSound};
 
 use run_program::{
@@ -68,7 +69,9 @@ fn run<R: Threads + Wait + Sync, O: Sink + Drop, E: Sink + Drop>(
 }
 
 /// The path of the input file. `None` for standard input.
-fn path_of<'a>(args: &Args<'a>) -> Option<&'a str> {
+fn path_of<'a>(args: &Args<'a>) -> Option<&'a str>
+    ensures { option_map (λ path. path.now) result ≡ file_of args.now }
+{
     let path = match *args {
         Args::Live(_) => return None,
         Args::Replay(path)
@@ -80,6 +83,13 @@ fn path_of<'a>(args: &Args<'a>) -> Option<&'a str> {
         | Args::Check(path, _)
         | Args::Savings(path, _) => path,
     };
+    file_at(path)
+}
+
+/// The path of a file. `None` for the path that names standard input.
+fn file_at(path: &str) -> Option<&str>
+    ensures { option_map (λ path. path.now) result ≡ file_at path.now }
+{
     if path == STANDARD_INPUT {
         None
     } else {
