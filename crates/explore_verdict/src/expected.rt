@@ -1,7 +1,7 @@
 //! The outcomes that a text lists.
 ghost use Rattle.std.specs.Prelude.{◌≡◌, ◌++◌, ◌∷◌, [], ℕ, List, None, Some, IfOk, OnOk, unwrap_or};
 ghost use Rattle.model_jobs.specs.Texts.{ended};
-ghost use Rattle.explore_verdict.specs.Expected.{blocks_from, blocks_of, of_begun};
+ghost use Rattle.explore_verdict.specs.Expected.{blocks_from, blocks_of, is_outcome_line, is_worker_line, of_begun};
 
 use crate::block::Block;
 use std::alloc::{AllocError, Global};
@@ -39,17 +39,31 @@ pub(crate) fn blocks(alloc: Global, text: &[u8]) -> Result<Vec<Block>, AllocErro
     Ok(done)
 }
 
+/// Whether this is the line of a worker, as a listing has below the line of an outcome.
+pub(crate) fn is_worker_line(line: &[u8]) -> bool
+    ensures { result ≡ is_worker_line line.now }
+{
+    line.starts_with(b"  worker ")
+}
+
+/// Whether this is the line of an outcome, which opens a block.
+pub(crate) fn is_outcome_line(line: &[u8]) -> bool
+    ensures { result ≡ is_outcome_line line.now }
+{
+    line.starts_with(b"outcome")
+}
+
 impl Read {
     /// Reads one more line.
     fn take(&mut self, line: &[u8]) -> Result<(), AllocError>
         ensures { OnOk result ((lines : List (List ℕ)) → self.new.done.items ++ blocks_from self.new.begun lines
             ≡ self.old.done.items ++ blocks_from self.old.begun (line.now ∷ lines)) }
     {
-        if line.starts_with(b"  worker ") {
+        if is_worker_line(line) {
             return self.add(line);
         }
         self.close()?;
-        if line.starts_with(b"outcome") {
+        if is_outcome_line(line) {
             self.begun = Some(Block::new(self.alloc));
         }
         Ok(())

@@ -2,6 +2,7 @@
 ghost use Rattle.std.specs.Prelude.{◌≡◌};
 ghost use Rattle.explore_verdict.specs.ListFaults.{has_return, is_listing_line, line_fault, list_fault, opens_block};
 
+use crate::expected::{is_outcome_line, is_worker_line};
 use text_fields::lines::cut;
 
 /// Why a text is no list of outcomes. Lines are counted from 1.
@@ -74,12 +75,12 @@ fn is_listing_line(line: &[u8]) -> bool
         || line.starts_with(b"interleavings ")
         || line.starts_with(b"worker ")
         || line.starts_with(b"  ")
-        || line.starts_with(b"outcome")
+        || is_outcome_line(line)
 }
 
 /// Whether this line begins or continues an outcome.
 fn opens_block(line: &[u8]) -> bool
     ensures { result ≡ opens_block line.now }
 {
-    line.starts_with(b"  worker ") || line.starts_with(b"outcome")
+    is_worker_line(line) || is_outcome_line(line)
 }

@@ -1,4 +1,6 @@
-"""The examples of a page: commands that begin with `$ meshrun`, and below each what it prints."""
+"""The examples of a page: commands that begin with `$ meshrun`, and below each what it prints.
+
+A command ends with status 0 unless `$ echo $?` behind it shows another."""
 
 import os
 import pathlib
@@ -18,15 +20,15 @@ def cases(suite):
     for folder in FOLDERS:
         (room / folder).symlink_to(pathlib.Path(folder).resolve())
     variables = {"PATH": f"{room}:{os.environ['PATH']}"}
-    for command, printed in examples(PAGE.read_text()):
+    for command, printed, status in examples(PAGE.read_text()):
         shown = execute(["sh", "-c", f"cd {room} && {command} 2>&1"], variables=variables)
-        suite.compare(f"{PAGE}: {command}", shown, shown.status, printed.encode())
+        suite.compare(f"{PAGE}: {command}", shown, status, printed.encode())
 
 
 def examples(text):
-    """The commands of a page, in order, each with what it prints."""
+    """The commands of a page, in order, each with what it prints and its status."""
     for block in re.findall(r"(?ms)^```\n(.*?)^```$", text):
-        for example in re.split(r"(?m)^\$ ", block)[1:]:
-            command, _, printed = example.partition("\n")
+        shown = [example.partition("\n")[::2] for example in re.split(r"(?m)^\$ ", block)[1:]]
+        for (command, printed), (behind, value) in zip(shown, shown[1:] + [("", "")]):
             if command.startswith("meshrun "):
-                yield command, printed
+                yield command, printed, int(value) if behind == "echo $?" else 0
