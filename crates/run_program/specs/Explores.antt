@@ -90,7 +90,7 @@ pub record IsShownOf (args : ShownArgs) (shown : Shown) : Type 0 where
 pub record IsUnreadFor (input_failed errors_failed : Bool) (told told' : Option (List ℕ)) (status : ℕ) : Type 0 where
   pub error : ReplayError
   pub is_status : status ≡ status_of_error error
-  pub failed : error ≡ Read → input_failed ≡ true
+  pub failed : HasNotReadAll input_failed error
   pub line : HasTold errors_failed told told' (ended (error_text error))
 
 -- the texts of the patterns that no outcome may match

@@ -1,7 +1,6 @@
 //! Reading a text to the end of its device.
-ghost use Rattle.std.specs.Prelude.{◌≡◌, ◌≤◌, false, true, Err, IfOk, OnOk, length, vec_len};
-ghost use Rattle.text_devices.specs.declared.faults.ReplayError.{ReplayError};
-ghost use Rattle.text_devices.specs.Transfer.{HasReadAll};
+ghost use Rattle.std.specs.Prelude.{◌≡◌, ◌≤◌, false, IfErr, IfOk, OnOk, length, vec_len};
+ghost use Rattle.text_devices.specs.Transfer.{HasNotReadAll, HasReadAll};
 
 use crate::{ReplayError, Source, read_some};
 use std::alloc::{AllocError, Global};
@@ -11,12 +10,12 @@ const READ_BYTES: usize = 16_384;
 
 /// Reads the input to its end, and returns all bytes that were read.
 ///
-/// The error is `Read` if a read failed, and `Memory` if an allocation failed.
+/// The error is `Read` if and only if a read failed. Otherwise it is `Memory`: an allocation failed.
 pub fn read_all<I: Source>(alloc: Global, input: &mut I) -> Result<Vec<u8>, ReplayError>
     requires { I.has_failed input.old ≡ false }
     ensures ok { OnOk result (I.has_failed input.new ≡ false) }
     ensures text { IfOk result (λ text. HasReadAll (I.remaining input.old) (I.remaining input.new) text.items) }
-    ensures read { result ≡ Err ReplayError.Read → I.has_failed input.new ≡ true }
+    ensures stopped { IfErr result (HasNotReadAll (I.has_failed input.new)) }
 {
     let mut room = room_to_read(alloc)?;
     read_into(alloc, input, &mut room)
@@ -40,7 +39,7 @@ fn read_into<I: Source>(
     requires room { 1 ≤ length room.old }
     ensures ok { OnOk result (I.has_failed input.new ≡ false) }
     ensures text { IfOk result (λ text. HasReadAll (I.remaining input.old) (I.remaining input.new) text.items) }
-    ensures read { result ≡ Err ReplayError.Read → I.has_failed input.new ≡ true }
+    ensures stopped { IfErr result (HasNotReadAll (I.has_failed input.new)) }
 {
     let mut text = Vec::new(alloc);
     for _read in 0..u64::MAX {
