@@ -15,7 +15,7 @@ use Rattle.history_overlaps.specs.Followed.{IsStopped}
 use Rattle.history_overlaps.specs.OrderTexts.{ordered_text}
 use Rattle.history_overlaps.specs.OwnOrders.{BeginInOrder}
 use Rattle.history_judge.specs.declared.order_faults.OrderFault.{OrderFault}
-use Rattle.history_judge.specs.declared.order_faults.OrderFault.TheVariants.{Undecided, Read, Memory as NoMemory}
+use Rattle.history_judge.specs.declared.order_faults.OrderFault.TheVariants.{Undecided, Memory as NoMemory}
 
 -- the text has no fault, and these are its calls, each in its ranges
 pub record AreCallsOf (text : List ℕ) (calls : List TimedCall) : Type 0 where
@@ -58,10 +58,8 @@ order_fault_of OutOfMemory = NoMemory
 order_fault_of fault = Undecided
 
 -- why it isn't known whether some order explains the text's calls. The text has no fault, and has 2^32 - 1 calls or
--- more, or the judge of the accesses to some object stops. A fault of the device and an allocation failure claim
--- nothing
+-- more, or the judge of the accesses to some object stops. An allocation failure claims nothing
 abbrev pub HasNoAnswer : List ℕ → ℕ → OrderFault → Type 0
 HasNoAnswer text most Undecided = (calls : List Call) × (calls_of text ≡ record { calls = calls; fault = None })
     × ((2 ^ 32 - 1 ≤ length calls) ⊎ IsStopped calls most TooMany ⊎ IsStopped calls most TooManyPending)
-HasNoAnswer text most Read = Unit {0}
 HasNoAnswer text most NoMemory = Unit {0}

@@ -11,8 +11,6 @@ use std::alloc::AllocError;
 pub enum OrderFault {
     /// A limit of the search was exceeded.
     Undecided,
-    /// The text could not be read.
-    Read,
     /// An allocation failed.
     Memory,
 }

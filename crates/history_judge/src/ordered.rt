@@ -51,8 +51,8 @@ fn calls_in(alloc: Global, text: &[u8]) -> Result<Option<Vec<TimedCall>>, OrderF
         Ok(calls) => Ok(Some(calls)),
         Err(CallError::Text(_)) => Ok(None),
         Err(CallError::Order(_)) => Ok(None),
-        Err(CallError::Read) => Err(OrderFault::Read),
-        Err(CallError::Memory) => Err(OrderFault::Memory),
+        // No read of a text in memory fails.
+        Err(CallError::Memory | CallError::Read) => Err(OrderFault::Memory),
     }
 }
 

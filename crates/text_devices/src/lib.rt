@@ -7,6 +7,7 @@
 //! - `read_some` makes one call. `read_all` and `write_all` make calls until the whole text is read or written.
 //! - A `LineInput` returns the lines of its device one by one, whatever their format. It consists of a `BegunLine`, the
 //!   beginning of a line whose end hasn't been read yet, and of `Pending` bytes, the unused bytes of the last read.
+//! - `TextSource` is a text in memory as a source.
 //! - `ReplayError` is the reason for which a run that reads a text from one device and writes to another device stops
 //!   before its end.
 //!
@@ -19,6 +20,7 @@ mod faults;
 mod lines;
 mod pending;
 mod reading;
+mod text;
 mod transfer;
 
 pub use begun::BegunLine;
@@ -27,4 +29,5 @@ pub use faults::ReplayError;
 pub use lines::{LineInput, end_fault, fault_at, long_line};
 pub use pending::Pending;
 pub use reading::read_all;
+pub use text::TextSource;
 pub use transfer::{read_some, write_all, write_lines};
