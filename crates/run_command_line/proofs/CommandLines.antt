@@ -11,7 +11,8 @@ use Rattle.clap.specs.declared.parser.matches.ArgMatches.TheViews.{out-ArgMatche
 use Rattle.clap.specs.declared.parser.matches.Found.{Found}
 use Rattle.clap.proofs.OnLiterals.{clap_on_literals}
 use Rattle.clap.proofs.WalkLemmas.{first_value-rows}
-use Rattle.run_command_line.specs.CommandLine.{Asked, IsSaidOf, asked, asked_by, asked_in, asked_of, is_taken, kinds_of, check_of, draw_of, explore_of, live_of, meshrun_app, never_asked, never_found, never_in, replay_history_of, replay_of, savings_of, tells_all, tells_answer, tells_outcome, tells_verdict, threads_history_of, threads_of}
+use Rattle.run_command_line.specs.Conditions.{ConditionTexts, no_condition}
+use Rattle.run_command_line.specs.CommandLine.{Asked, IsSaidOf, asked, asked_by, asked_in, asked_of, is_taken, kinds_of, check_of, draw_of, explore_of, live_of, meshrun_app, conditions_asked, conditions_found, conditions_in, explains_asked, explains_found, explains_in, replay_history_of, replay_of, savings_of, tells_all, tells_answer, tells_outcome, tells_verdict, threads_history_of, threads_of}
 
 -- the command line is one whose matches and faults `clap` tells
 pub is_told : is_simple_and_free meshrun_app ≡ true
@@ -44,11 +45,17 @@ pub asked_of_matches : (words : List Text) (app : App) (found : Option (Text × 
 unfolding asked
 asked_of_matches words app found is rows = ap asked_in (rows ∙ ap (λ a. subcommand_of a words) is)
 
--- and which patterns they have
-pub never_of_matches : (words : List Text) (app : App) (found : Option (Text × List Row)) → app ≡ meshrun_app → found ≡ subcommand_of app words
-    → never_found found ≡ never_asked words
-unfolding never_asked
-never_of_matches words app found is rows = ap never_found (rows ∙ ap (λ a. subcommand_of a words) is)
+-- and which conditions they have
+pub conditions_of_matches : (words : List Text) (app : App) (found : Option (Text × List Row)) → app ≡ meshrun_app → found ≡ subcommand_of app words
+    → conditions_found found ≡ conditions_asked words
+unfolding conditions_asked
+conditions_of_matches words app found is rows = ap conditions_found (rows ∙ ap (λ a. subcommand_of a words) is)
+
+-- and whether faults are explained
+pub explains_of_matches : (words : List Text) (app : App) (found : Option (Text × List Row)) → app ≡ meshrun_app → found ≡ subcommand_of app words
+    → explains_found found ≡ explains_asked words
+unfolding explains_asked
+explains_of_matches words app found is rows = ap explains_found (rows ∙ ap (λ a. subcommand_of a words) is)
 
 first_parts : {X A B : Type 0} (f : X → A × B) (o : Option X) → option_map (λ x. (f x).0) o ≡ option_map (λ p. p.0) (option_map f o)
 first_parts f None = refl
@@ -58,13 +65,18 @@ first_parts f (Some x) = refl
 name_of_rows : (matches : ArgMatches) (name : Text) → Some name ≡ subcommand_name_of matches → Some name ≡ option_map (λ p. p.0) (subcommand_rows_of matches)
 name_of_rows matches name is = is ∙ first_parts (λ b. ((out-SubCommand (box_value b)).name.now, rows_of (found_of (out-SubCommand (box_value b)).matches))) (out-ArgMatches matches).subcommand
 
--- its patterns, if its matches have at most ten
-pub never_of_rows : (found : Option (Text × List Row)) (rows : List Row) (never : List Text) → Some rows ≡ option_map (λ p. p.1) found → Some never ≡ never_in rows
-    → never ≡ never_found found
-never_of_rows None rows never has few = absurd (cc has)
-never_of_rows (Some found) rows never has few =
+-- its conditions, if its matches have at most ten of each kind
+pub conditions_of_rows : (found : Option (Text × List Row)) (rows : List Row) (conditions : ConditionTexts) → Some rows ≡ option_map (λ p. p.1) found
+    → Some conditions ≡ conditions_in rows → conditions ≡ conditions_found found
+conditions_of_rows None rows conditions has few = absurd (cc has)
+conditions_of_rows (Some found) rows conditions has few =
     let rows_are : rows ≡ found.1 = cc has in
-    ap (λ (texts : Option (List Text)). unwrap_or texts []) (few ∙ ap never_in rows_are)
+    ap (λ (texts : Option ConditionTexts). unwrap_or texts no_condition) (few ∙ ap conditions_in rows_are)
+
+-- whether it explains faults
+pub explains_of_rows : (found : Option (Text × List Row)) (rows : List Row) → Some rows ≡ option_map (λ p. p.1) found → explains_in rows ≡ explains_found found
+explains_of_rows None rows has = absurd (cc has)
+explains_of_rows (Some found) rows has = (let rows_are : rows ≡ found.1 = cc has in ap explains_in rows_are)
 
 -- what a subcommand that was met asks for, by its name and its rows
 met : (found : Option (Text × List Row)) (name : Text) (rows : List Row) → Some name ≡ option_map (λ p. p.0) found → Some rows ≡ option_map (λ p. p.1) found
@@ -81,15 +93,15 @@ pub asked_by_matches : (matches : ArgMatches) (name : Text) (found : Found) → 
 asked_by_matches matches name found named has = sym (met (subcommand_rows_of matches) name (rows_of found) (name_of_rows matches name named) has)
 
 -- what it asks for with the file that its matches have
-pub asked_of_file : (never : List Text) (name : Text) (found : Found) (file : Option Text) → file ≡ first_value found (codes "FILE")
-    → option_and_then (asked_of never name (rows_of found)) file ≡ option_and_then (asked_of never name (rows_of found)) (first_of (codes "FILE") (rows_of found))
-asked_of_file never name found file is = ap (option_and_then (asked_of never name (rows_of found))) (is ∙ first_value-rows found (codes "FILE"))
+pub asked_of_file : (conditions : ConditionTexts) (name : Text) (found : Found) (file : Option Text) → file ≡ first_value found (codes "FILE")
+    → option_and_then (asked_of conditions name (rows_of found)) file ≡ option_and_then (asked_of conditions name (rows_of found)) (first_of (codes "FILE") (rows_of found))
+asked_of_file conditions name found file is = ap (option_and_then (asked_of conditions name (rows_of found))) (is ∙ first_value-rows found (codes "FILE"))
 
 -- where the command's name is a known one, and this is what that one asks for
-pub asked_of_known : (never : List Text) (name known : Text) (found : Found) (file : Text) (asked : Option Asked) → name ≡ known → Some file ≡ first_value found (codes "FILE")
-    → asked ≡ asked_of never known (rows_of found) file → asked ≡ option_and_then (asked_of never name (rows_of found)) (first_of (codes "FILE") (rows_of found))
-asked_of_known never name known found file asked is has asks =
-    asks ∙ sym (ap (λ text. asked_of never text (rows_of found) file) is) ∙ asked_of_file never name found (Some file) has
+pub asked_of_known : (conditions : ConditionTexts) (name known : Text) (found : Found) (file : Text) (asked : Option Asked) → name ≡ known → Some file ≡ first_value found (codes "FILE")
+    → asked ≡ asked_of conditions known (rows_of found) file → asked ≡ option_and_then (asked_of conditions name (rows_of found)) (first_of (codes "FILE") (rows_of found))
+asked_of_known conditions name known found file asked is has asks =
+    asks ∙ sym (ap (λ text. asked_of conditions text (rows_of found) file) is) ∙ asked_of_file conditions name found (Some file) has
 
 -- the words of a command line: behind the program's name those of a text, with a space between two
 abbrev spoken : Text → List Text
@@ -167,32 +179,45 @@ tellings_are_asked :
       allows_no_mesh = false;
       is_watched = true;
     }))
-    × Asks (codes "explore a.job --mesh 1:0 --never=one --expect a.out --allow-no-mesh --never two")
+    × Asks (codes "explore a.job --mesh 1:0 --never=one --expect a.out --exists three --allow-no-mesh --never two")
     (explore_of (codes "a.job") (record {
       meshes = record { source = 1; destination = 0 } ∷ [];
       cancel = None;
       states = 100000;
-      told = tells_verdict (record { expect = Some (codes "a.out"); never = codes "one" ∷ codes "two" ∷ [] });
+      told = tells_verdict (record { expect = Some (codes "a.out"); conditions = record { never = codes "one" ∷ codes "two" ∷ []; always = []; exists = codes "three" ∷ [] } });
       allows_no_mesh = true;
       is_watched = false;
     }))
 unfolding clap_on_literals asked is_taken
 tellings_are_asked = ((refl, refl), (refl, refl))
 
--- the patterns come in their order, and a replay has none
-patterns_are_asked :
-    (never_asked (spoken (codes "explore a.job --mesh 1:0 --never=one --expect a.out --never two")) ≡ codes "one" ∷ codes "two" ∷ [])
-    × (never_asked (spoken (codes "replay hello.job")) ≡ [])
-unfolding clap_on_literals never_asked
-patterns_are_asked = (refl, refl)
+-- the conditions come in their order, each kind by itself, and a replay has none
+conditions_are_asked :
+    (conditions_asked (spoken (codes "explore a.job --mesh 1:0 --never=one --always three --expect a.out --never two"))
+    ≡ record { never = codes "one" ∷ codes "two" ∷ []; always = codes "three" ∷ []; exists = [] })
+    × (conditions_asked (spoken (codes "replay hello.job")) ≡ no_condition)
+unfolding clap_on_literals conditions_asked
+conditions_are_asked = (refl, refl)
+
+-- faults are explained, but those of a replay and of threads only with the flag
+explanations_are_asked :
+    (explains_asked (spoken (codes "replay hello.job")) ≡ false)
+    × (explains_asked (spoken (codes "replay hello.job --explain")) ≡ true)
+    × (explains_asked (spoken (codes "threads a.job --probe=2 --rounds=3 --workers=1 --seed=5 --history")) ≡ false)
+    × (explains_asked (spoken (codes "threads --explain a.job --probe=2 --rounds=3 --workers=1 --seed=5")) ≡ true)
+    × (explains_asked (spoken (codes "draw a.job")) ≡ true)
+unfolding clap_on_literals explains_asked
+explanations_are_asked = (refl, refl, refl, refl, refl)
 
 -- two things are not told at once, and an answer needs a line, a text and a phase
 two_tellings_ask_nothing :
     (asked (spoken (codes "explore a.job --mesh 1:0 --witness 3 --never one")) ≡ None)
+    × (asked (spoken (codes "explore a.job --mesh 1:0 --witness 3 --always one")) ≡ None)
+    × (asked (spoken (codes "explore a.job --mesh 1:0 --show 12:done:over --exists one")) ≡ None)
     × (asked (spoken (codes "explore a.job --mesh 1:0 --show 12:done")) ≡ None)
     × (asked (spoken (codes "explore a.job --mesh 1:0 --show 0:done:over")) ≡ None)
 unfolding clap_on_literals asked
-two_tellings_ask_nothing = (refl, refl, refl)
+two_tellings_ask_nothing = (refl, refl, refl, refl, refl)
 
 -- a history is followed with a round behind every 10,000 frees, 64 rounds of tries, words of the seed 1, and figures of
 -- all calls; or with what is given

@@ -5,7 +5,8 @@ use Rattle.std.specs.Prelude.{option_and_then}
 use Rattle.clap.specs.Words.{Text, first_of, first_value, matched_of, raw_values, rows_of}
 use Rattle.clap.specs.declared.parser.matches.Found.{Found}
 use Rattle.clap.proofs.WalkLemmas.{first_value-rows, raw_values-rows}
-use Rattle.run_command_line.specs.CommandLine.{ShownAnswer, ToldOf, asks_verdict, few_texts, given_in, never_in, of_given, shown_given_in, shown_of_text, told_by, told_in, told_where}
+use Rattle.run_command_line.specs.CommandLine.{ShownAnswer, ToldOf, asks_verdict, few_texts, given_in, of_given, shown_given_in, shown_of_text, texts_in, told_by, told_in, told_where}
+use Rattle.run_command_line.specs.Conditions.{ConditionTexts}
 
 -- more than ten
 pub not_few : (n : ℕ) → 10 < n → nat_le n 10 ≡ false
@@ -21,44 +22,44 @@ module _ (found : Found) where
   pub none_shown : None ≡ first_value found (codes "show") → Some None ≡ shown_given_in (rows_of found)
   none_shown is = ap (of_given shown_of_text) (is ∙ first_value-rows found (codes "show"))
 
-  -- no pattern is given
-  pub none_given : None ≡ option_map raw_values (matched_of found (codes "never")) → Some [] ≡ never_in (rows_of found)
-  none_given is = ap few_texts (is ∙ raw_values-rows found (codes "never"))
+  -- an option isn't given
+  pub none_given : (name : Text) → None ≡ option_map raw_values (matched_of found name) → Some [] ≡ texts_in name (rows_of found)
+  none_given name is = ap few_texts (is ∙ raw_values-rows found name)
 
   -- or some are, by how many these are
-  given : (texts : List Text) (few : Bool) → Some texts ≡ option_map raw_values (matched_of found (codes "never")) → nat_le (length texts) 10 ≡ few
-      → (if few then Some texts else None) ≡ never_in (rows_of found)
-  given texts few is long =
-      ap (λ (b : Bool). if b then Some texts else None) (sym long) ∙ ap few_texts (is ∙ raw_values-rows found (codes "never"))
+  given : (name : Text) (texts : List Text) (few : Bool) → Some texts ≡ option_map raw_values (matched_of found name) → nat_le (length texts) 10 ≡ few
+      → (if few then Some texts else None) ≡ texts_in name (rows_of found)
+  given name texts few is long =
+      ap (λ (b : Bool). if b then Some texts else None) (sym long) ∙ ap few_texts (is ∙ raw_values-rows found name)
 
-  pub some_given : (texts : List Text) → Some texts ≡ option_map raw_values (matched_of found (codes "never")) → nat_le (length texts) 10 ≡ true
-      → Some texts ≡ never_in (rows_of found)
-  some_given texts is few = given texts true is few
+  pub some_given : (name : Text) (texts : List Text) → Some texts ≡ option_map raw_values (matched_of found name) → nat_le (length texts) 10 ≡ true
+      → Some texts ≡ texts_in name (rows_of found)
+  some_given name texts is few = given name texts true is few
 
-  pub too_many_given : (texts : List Text) → Some texts ≡ option_map raw_values (matched_of found (codes "never")) → nat_le (length texts) 10 ≡ false
-      → None ≡ never_in (rows_of found)
-  too_many_given texts is many = given texts false is many
+  pub too_many_given : (name : Text) (texts : List Text) → Some texts ≡ option_map raw_values (matched_of found name) → nat_le (length texts) 10 ≡ false
+      → None ≡ texts_in name (rows_of found)
+  too_many_given name texts is many = given name texts false is many
 
   -- what is told, by what was read
-  abbrev told_with : List Text → Option ℕ → Option ToldOf
-  told_with never witness = option_and_then (told_where (first_of (codes "expect") (rows_of found)) never witness) (shown_given_in (rows_of found))
+  abbrev told_with : ConditionTexts → Option ℕ → Option ToldOf
+  told_with conditions witness = option_and_then (told_where (first_of (codes "expect") (rows_of found)) conditions witness) (shown_given_in (rows_of found))
 
-  pub told_is : (never : List Text) (expect : Option Text) (witness : Option ℕ) (shown : Option ShownAnswer) (verdict : Bool) (told : Option ToldOf)
+  pub told_is : (conditions : ConditionTexts) (expect : Option Text) (witness : Option ℕ) (shown : Option ShownAnswer) (verdict : Bool) (told : Option ToldOf)
       → Some witness ≡ given_in (codes "witness") 0 4294967295 (rows_of found) → Some shown ≡ shown_given_in (rows_of found)
-      → expect ≡ first_value found (codes "expect") → verdict ≡ asks_verdict expect never
-      → told ≡ told_by witness shown verdict (record { expect = expect; never = never }) → told ≡ told_in never (rows_of found)
-  told_is never expect witness shown verdict told witness_is shown_is expect_is verdict_is is =
+      → expect ≡ first_value found (codes "expect") → verdict ≡ asks_verdict expect conditions
+      → told ≡ told_by witness shown verdict (record { expect = expect; conditions = conditions }) → told ≡ told_in conditions (rows_of found)
+  told_is conditions expect witness shown verdict told witness_is shown_is expect_is verdict_is is =
       is
-      ∙ ap (λ (b : Bool). told_by witness shown b (record { expect = expect; never = never })) verdict_is
-      ∙ ap (λ (e : Option Text). told_where e never witness shown) (expect_is ∙ first_value-rows found (codes "expect"))
-      ∙ ap (option_and_then (told_where (first_of (codes "expect") (rows_of found)) never witness)) shown_is
-      ∙ ap (option_and_then (told_with never)) witness_is
+      ∙ ap (λ (b : Bool). told_by witness shown b (record { expect = expect; conditions = conditions })) verdict_is
+      ∙ ap (λ (e : Option Text). told_where e conditions witness shown) (expect_is ∙ first_value-rows found (codes "expect"))
+      ∙ ap (option_and_then (told_where (first_of (codes "expect") (rows_of found)) conditions witness)) shown_is
+      ∙ ap (option_and_then (told_with conditions)) witness_is
 
   -- an outcome or an answer that can't be read
-  pub no_witness : (never : List Text) → None ≡ given_in (codes "witness") 0 4294967295 (rows_of found) → None ≡ told_in never (rows_of found)
-  no_witness never is = ap (option_and_then (told_with never)) is
+  pub no_witness : (conditions : ConditionTexts) → None ≡ given_in (codes "witness") 0 4294967295 (rows_of found) → None ≡ told_in conditions (rows_of found)
+  no_witness conditions is = ap (option_and_then (told_with conditions)) is
 
-  pub no_answer : (never : List Text) (witness : Option ℕ) → Some witness ≡ given_in (codes "witness") 0 4294967295 (rows_of found)
-      → None ≡ shown_given_in (rows_of found) → None ≡ told_in never (rows_of found)
-  no_answer never witness witness_is is =
-      ap (option_and_then (told_where (first_of (codes "expect") (rows_of found)) never witness)) is ∙ ap (option_and_then (told_with never)) witness_is
+  pub no_answer : (conditions : ConditionTexts) (witness : Option ℕ) → Some witness ≡ given_in (codes "witness") 0 4294967295 (rows_of found)
+      → None ≡ shown_given_in (rows_of found) → None ≡ told_in conditions (rows_of found)
+  no_answer conditions witness witness_is is =
+      ap (option_and_then (told_where (first_of (codes "expect") (rows_of found)) conditions witness)) is ∙ ap (option_and_then (told_with conditions)) witness_is

@@ -1,5 +1,5 @@
 -- The command line as `clap` reads it, and how the program stops if the command line asks for no run.
-use Rattle.std.specs.Prelude.{◌≡◌, ◌⊎◌, ◌&&◌, ◌||◌, ◌==◌, ℕ, Bool, true, false, not, List, [], ◌∷◌, Option, Some, None, codes, if◌then◌else◌, is_none, is_some, length, nat_eq, nat_le, option_and_then, option_map}
+use Rattle.std.specs.Prelude.{◌≡◌, ◌⊎◌, ◌&&◌, ◌||◌, ◌==◌, ℕ, Bool, true, false, List, [], ◌∷◌, Option, Some, None, codes, if◌then◌else◌, is_none, is_some, length, nat_eq, nat_le, option_and_then, option_map}
 use Rattle.std.specs.Cow.{cow_str_bytes}
 use Rattle.std.specs.List.{after_first, before_first}
 use Rattle.std.specs.Option.{unwrap_or}
@@ -13,11 +13,11 @@ use Rattle.clap.specs.declared.error.kind.ErrorKind.{ErrorKind}
 use Rattle.clap.specs.declared.error.kind.ErrorKind.TheVariants.{DisplayHelp, DisplayVersion, OutOfMemory, ValueValidation}
 use Rattle.model_jobs.specs.Texts.{ended}
 use Rattle.run_command_line.specs.Meshes.{pairs_of}
-use Rattle.run_command_line.specs.Patterns.{texts_of}
+use Rattle.run_command_line.specs.Conditions.{ConditionTexts, conditions_of, has_condition, no_condition}
 use Rattle.run_command_line.specs.declared.check_args.CheckArgs.{CheckArgs}
 use Rattle.run_command_line.specs.declared.command_line.Args.{Args}
 use Rattle.run_command_line.specs.declared.command_line.Args.TheVariants.{Check, Draw, Explore, Live, Replay, ReplayHistory, Savings, Threads, ThreadsHistory}
-use Rattle.run_command_line.specs.declared.command_line.Parsed.{Parsed}
+use Rattle.run_command_line.specs.declared.requested.Request.{Request}
 use Rattle.run_command_line.specs.declared.stop.Stop.{Stop}
 use Rattle.run_command_line.specs.declared.draw_args.DrawArgs.{DrawArgs}
 use Rattle.run_command_line.specs.declared.explore_args.ExploreArgs.{ExploreArgs}
@@ -64,16 +64,16 @@ texts_rule name = record (text_rule name) { action = Some Append }
 abbrev pub mesh_rule : Rule
 mesh_rule = record (new_rule (codes "mesh")) { long = Some (codes "mesh"); action = Some Append; required = true; value_names = 1 }
 
--- `replay FILE [--history]`
+-- `replay FILE [--history] [--explain]`
 abbrev pub replay_app : App
-replay_app = with_rule (with_rule (new_app (codes "replay")) file_rule) (flag_rule (codes "history"))
+replay_app = with_rule (with_rule (with_rule (new_app (codes "replay")) file_rule) (flag_rule (codes "history"))) (flag_rule (codes "explain"))
 
--- `threads FILE --probe T --rounds R --workers N --seed S [--meshers M] [--history]`
+-- `threads FILE --probe T --rounds R --workers N --seed S [--meshers M] [--history] [--explain]`
 abbrev pub threads_app : App
-threads_app = with_rule (with_rule (with_rule (with_rule (with_rule (with_rule (with_rule (new_app (codes "threads")) file_rule)
+threads_app = with_rule (with_rule (with_rule (with_rule (with_rule (with_rule (with_rule (with_rule (new_app (codes "threads")) file_rule)
     (required_number (codes "probe") 0 64)) (required_number (codes "rounds") 0 1000)) (required_number (codes "workers") 1 16))
     (required_number (codes "seed") 0 18446744073709551615)) (number_or (codes "meshers") 1 10 (codes "1")))
-    (flag_rule (codes "history"))
+    (flag_rule (codes "history"))) (flag_rule (codes "explain"))
 
 -- `draw FILE [--from N] [--to N] [--columns N]`
 abbrev pub draw_app : App
@@ -87,11 +87,11 @@ live_app = with_rule (with_rule (with_rule (new_app (codes "live")) (number_or (
     (number_or (codes "history") 0 65536 (codes "65536"))) (number_or (codes "workers") 1 64 (codes "64"))
 
 -- `explore FILE --mesh SRC:DST [--mesh ..] [--cancel AFTER] [--states N] [--witness K | --show LINE:ANSWER:PHASE |
--- [--expect FILE] [--never PATTERN ..]] [--allow-no-mesh] [--progress]`
+-- [--expect FILE] [--never COND ..] [--always COND ..] [--exists COND ..]] [--allow-no-mesh] [--progress]`
 abbrev pub explore_app : App
-explore_app = with_rule (with_rule (with_rule (with_rule (with_rule (with_rule (with_rule (with_rule (with_rule (with_rule (new_app (codes "explore")) file_rule) mesh_rule)
+explore_app = with_rule (with_rule (with_rule (with_rule (with_rule (with_rule (with_rule (with_rule (with_rule (with_rule (with_rule (with_rule (new_app (codes "explore")) file_rule) mesh_rule)
     (number_rule (codes "cancel") 0 1000)) (number_or (codes "states") 1 10000000 (codes "100000"))) (number_rule (codes "witness") 0 4294967295))
-    (text_rule (codes "show"))) (text_rule (codes "expect"))) (texts_rule (codes "never"))) (flag_rule (codes "allow-no-mesh"))) (flag_rule (codes "progress"))
+    (text_rule (codes "show"))) (text_rule (codes "expect"))) (texts_rule (codes "never"))) (texts_rule (codes "always"))) (texts_rule (codes "exists"))) (flag_rule (codes "allow-no-mesh"))) (flag_rule (codes "progress"))
 
 -- `check FILE [--configurations N] [--order]`
 abbrev pub check_app : App
@@ -111,12 +111,14 @@ abbrev pub bare_app : App
 bare_app = let app = new_app (codes "meshrun") in
     record app { top = record app.top { has_version = true; subcommand_required = true; arg_required_else_help = true } }
 
--- `meshrun replay FILE ..`, `meshrun threads FILE ..`, `meshrun draw FILE ..`, `meshrun live ..`, `meshrun explore FILE
--- ..`, `meshrun check FILE ..` and `meshrun savings FILE ..`
+-- the subcommands that run a heap: `meshrun replay FILE ..`, `meshrun threads FILE ..`, `meshrun draw FILE ..` and
+-- `meshrun live ..`
+abbrev pub runs_app : App
+runs_app = with_subcommand (with_subcommand (with_subcommand (with_subcommand bare_app replay_app.top) threads_app.top) draw_app.top) live_app.top
+
+-- with those that judge: `meshrun explore FILE ..`, `meshrun check FILE ..` and `meshrun savings FILE ..`
 abbrev pub meshrun_app : App
-meshrun_app =
-    with_subcommand (with_subcommand (with_subcommand (with_subcommand (with_subcommand (with_subcommand (with_subcommand bare_app replay_app.top)
-    threads_app.top) draw_app.top) live_app.top) explore_app.top) check_app.top) savings_app.top
+meshrun_app = with_subcommand (with_subcommand (with_subcommand runs_app explore_app.top) check_app.top) savings_app.top
 
 -- ---- what words ask for
 
@@ -149,11 +151,11 @@ pub record ShownAnswer : Type 0 where
   pub answer : Text
   pub phase : Text
 
--- the criteria of a verdict: the path of the file that lists the expected outcomes, if one is given, and the patterns
--- that no outcome may match
+-- the criteria of a verdict: the path of the file that lists the expected outcomes, if one is given, and the conditions
+-- on the outcomes
 pub record Judged : Type 0 where
   pub expect : Option Text
-  pub never : List Text
+  pub conditions : ConditionTexts
 
 -- what is printed of an exploration: all outcomes, one outcome or one answer as a job file, or a verdict
 pub data ToldOf : Type 0 where
@@ -306,13 +308,19 @@ abbrev pub few_texts : Option (List Text) → Option (List Text)
 few_texts None = Some []
 few_texts (Some texts) = if nat_le (length texts) 10 then Some texts else None
 
--- the patterns in the matches for `--never`: at most 10
-abbrev pub never_in : List Row → Option (List Text)
-never_in rows = few_texts (all_of (codes "never") rows)
+-- the texts in the matches for an option: at most ten
+abbrev pub texts_in : Text → List Row → Option (List Text)
+texts_in name rows = few_texts (all_of name rows)
 
--- whether a verdict is asked for: a file of expected outcomes or a pattern is given
-abbrev pub asks_verdict : Option Text → List Text → Bool
-asks_verdict expect never = is_some expect || not (length never == 0)
+-- the conditions in the matches
+abbrev pub conditions_in : List Row → Option ConditionTexts
+conditions_in rows =
+    option_and_then (λ never. option_and_then (λ always. option_map (λ exists. record { never = never; always = always; exists = exists })
+    (texts_in (codes "exists") rows)) (texts_in (codes "always") rows)) (texts_in (codes "never") rows)
+
+-- whether a verdict is asked for: a file of expected outcomes or a condition is given
+abbrev pub asks_verdict : Option Text → ConditionTexts → Bool
+asks_verdict expect conditions = is_some expect || has_condition conditions
 
 -- what is printed: an outcome, an answer or a verdict, if at most one of them is asked for. If none is, all outcomes
 -- are printed
@@ -325,23 +333,23 @@ told_by (Some number) None true judged = None
 told_by None (Some shown) true judged = None
 told_by (Some number) (Some shown) is_verdict judged = None
 
--- what is printed, with this file of expected outcomes, if any, and these patterns
-abbrev pub told_where : Option Text → List Text → Option ℕ → Option ShownAnswer → Option ToldOf
-told_where expect never witness shown = told_by witness shown (asks_verdict expect never) (record { expect = expect; never = never })
+-- what is printed, with this file of expected outcomes, if any, and these conditions
+abbrev pub told_where : Option Text → ConditionTexts → Option ℕ → Option ShownAnswer → Option ToldOf
+told_where expect conditions witness shown = told_by witness shown (asks_verdict expect conditions) (record { expect = expect; conditions = conditions })
 
--- what is printed according to the matches, with these patterns
-abbrev pub told_in : List Text → List Row → Option ToldOf
-told_in never rows =
-    option_and_then (λ witness. option_and_then (told_where (first_of (codes "expect") rows) never witness) (shown_given_in rows))
+-- what is printed according to the matches, with these conditions
+abbrev pub told_in : ConditionTexts → List Row → Option ToldOf
+told_in conditions rows =
+    option_and_then (λ witness. option_and_then (told_where (first_of (codes "expect") rows) conditions witness) (shown_given_in rows))
     (given_in (codes "witness") 0 4294967295 rows)
 
--- what `explore` asks for according to its matches, with these patterns
-abbrev pub explored_in : List Text → List Row → Option Explored
-explored_in never rows =
+-- what `explore` asks for according to its matches, with these conditions
+abbrev pub explored_in : ConditionTexts → List Row → Option Explored
+explored_in conditions rows =
     option_and_then (λ meshes. option_and_then (λ cancel. option_and_then (λ states. option_and_then (λ told.
     option_and_then (λ allowed. option_map (λ is_watched.
     record { meshes = meshes; cancel = cancel; states = states; told = told; allows_no_mesh = allowed; is_watched = is_watched })
-    (flag_in (codes "progress") rows)) (flag_in (codes "allow-no-mesh") rows)) (told_in never rows)) (number_in (codes "states") 1 10000000 rows)) (given_in (codes "cancel") 0 1000 rows)) (meshes_in rows)
+    (flag_in (codes "progress") rows)) (flag_in (codes "allow-no-mesh") rows)) (told_in conditions rows)) (number_in (codes "states") 1 10000000 rows)) (given_in (codes "cancel") 0 1000 rows)) (meshes_in rows)
 
 -- the seed of `savings`: with `--first-fit` none, otherwise the given seed, or 1 if none is given. The outer `None` is
 -- a seed that isn't in range or that is given together with `--first-fit`
@@ -379,25 +387,25 @@ sizes_in rows =
     option_and_then (λ pages. option_and_then (λ history. option_map (λ workers. record { pages = pages; history = history; workers = workers })
     (number_in (codes "workers") 1 64 rows)) (number_in (codes "history") 0 65536 rows)) (number_in (codes "pages") 1 4096 rows)
 
--- what the subcommand of this name asks for, with this file, these matches and these patterns. `live` isn't among these
+-- what the subcommand of this name asks for, with this file, these matches and these conditions. `live` isn't among these
 -- subcommands, because it needs no file
-abbrev pub asked_of : List Text → Text → List Row → Text → Option Asked
-asked_of never name rows file =
+abbrev pub asked_of : ConditionTexts → Text → List Row → Text → Option Asked
+asked_of conditions name rows file =
     if bytes_eq name (codes "replay") then option_map (replay_by file) (is_recorded_in rows)
     else (if bytes_eq name (codes "threads") then option_and_then (λ numbers. option_map (threads_by file numbers) (is_recorded_in rows)) (numbers_in rows)
     else (if bytes_eq name (codes "draw") then option_map (draw_of file) (shown_in rows)
-    else (if bytes_eq name (codes "explore") then option_map (explore_of file) (explored_in never rows)
+    else (if bytes_eq name (codes "explore") then option_map (explore_of file) (explored_in conditions rows)
     else (if bytes_eq name (codes "check") then option_map (check_of file) (checked_in rows)
     else (if bytes_eq name (codes "savings") then option_map (savings_of file) (compared_in rows) else None)))))
 
--- what the subcommand of this name asks for, with these matches and these patterns. All but `live` need a file
-abbrev pub asked_with : List Text → Text → List Row → Option Asked
-asked_with never name rows =
-    if bytes_eq name (codes "live") then option_map live_of (sizes_in rows) else option_and_then (asked_of never name rows) (first_of (codes "FILE") rows)
+-- what the subcommand of this name asks for, with these matches and these conditions. All but `live` need a file
+abbrev pub asked_with : ConditionTexts → Text → List Row → Option Asked
+asked_with conditions name rows =
+    if bytes_eq name (codes "live") then option_map live_of (sizes_in rows) else option_and_then (asked_of conditions name rows) (first_of (codes "FILE") rows)
 
--- what the subcommand of this name asks for, with these matches. Only `explore` may have patterns
+-- what the subcommand of this name asks for, with these matches. Only `explore` may have conditions
 abbrev pub asked_by : Text → List Row → Option Asked
-asked_by name rows = option_and_then (λ never. asked_with never name rows) (never_in rows)
+asked_by name rows = option_and_then (λ conditions. asked_with conditions name rows) (conditions_in rows)
 
 -- what the subcommand and its matches, if there are any, ask for
 abbrev pub asked_in : Option (Text × List Row) → Option Asked
@@ -408,15 +416,28 @@ asked_in (Some found) = asked_by found.0 found.1
 unfoldable pub asked : List Text → Option Asked
 asked words = asked_in (subcommand_of meshrun_app words)
 
--- the patterns in what was found of a subcommand. There are none without a subcommand, and none are taken if more than
--- ten are given
-abbrev pub never_found : Option (Text × List Row) → List Text
-never_found None = []
-never_found (Some found) = unwrap_or (never_in found.1) []
+-- the conditions in what was found of a subcommand. There are none without a subcommand, and none are taken if an option
+-- is given more than ten times
+abbrev pub conditions_found : Option (Text × List Row) → ConditionTexts
+conditions_found None = no_condition
+conditions_found (Some found) = unwrap_or (conditions_in found.1) no_condition
 
--- the patterns that the words of a command line have
-unfoldable pub never_asked : List Text → List Text
-never_asked words = never_found (subcommand_of meshrun_app words)
+-- the conditions that the words of a command line have
+unfoldable pub conditions_asked : List Text → ConditionTexts
+conditions_asked words = conditions_found (subcommand_of meshrun_app words)
+
+-- whether a subcommand explains faults, by its matches: if it has the flag `--explain`, this flag is given
+abbrev pub explains_in : List Row → Bool
+explains_in rows = unwrap_or (flag_in (codes "explain") rows) true
+
+-- whether what was found of a subcommand explains faults
+abbrev pub explains_found : Option (Text × List Row) → Bool
+explains_found None = false
+explains_found (Some found) = explains_in found.1
+
+-- whether the words of a command line ask for explanations of faults
+unfoldable pub explains_asked : List Text → Bool
+explains_asked words = explains_found (subcommand_of meshrun_app words)
 
 -- whether the words are a command line of the program
 unfoldable pub is_taken : List Text → Bool
@@ -438,21 +459,21 @@ shown_of args = record { from = args.from; to = args.to; columns = args.columns 
 abbrev pub shown_answer_of : ShownArgs → ShownAnswer
 shown_answer_of args = record { line = args.line; answer = args.answer.now; phase = args.phase.now }
 
--- what is printed according to parsed arguments, with these patterns
-abbrev pub told_of : List Text → Told → ToldOf
-told_of never All = tells_all
-told_of never (Outcome number) = tells_outcome number
-told_of never (Answer shown) = tells_answer (shown_answer_of shown)
-told_of never (Verdict expect) = tells_verdict (record { expect = option_map (λ path. path.now) expect; never = never })
+-- what is printed according to parsed arguments, with these conditions
+abbrev pub told_of : ConditionTexts → Told → ToldOf
+told_of conditions All = tells_all
+told_of conditions (Outcome number) = tells_outcome number
+told_of conditions (Answer shown) = tells_answer (shown_answer_of shown)
+told_of conditions (Verdict expect) = tells_verdict (record { expect = option_map (λ path. path.now) expect; conditions = conditions })
 
--- the exploration in parsed arguments, with these patterns
-abbrev pub explored_of : List Text → ExploreArgs → Explored
-explored_of never args =
+-- the exploration in parsed arguments, with these conditions
+abbrev pub explored_of : ConditionTexts → ExploreArgs → Explored
+explored_of conditions args =
     record {
       meshes = pairs_of args.meshes;
       cancel = args.cancel;
       states = args.states;
-      told = told_of never args.told;
+      told = told_of conditions args.told;
       allows_no_mesh = args.allows_no_mesh;
       is_watched = args.is_watched;
     }
@@ -469,30 +490,31 @@ compared_of args = record { every = args.every; probe = args.probe; seed = args.
 abbrev pub sizes_of : LiveArgs → SessionSizes
 sizes_of args = record { pages = args.pages; history = args.history; workers = args.workers }
 
--- what parsed arguments ask for, with these patterns
-abbrev pub asking : List Text → Args → Asked
-asking never (Replay path) = replay_of path.now
-asking never (ReplayHistory path) = replay_history_of path.now
-asking never (Threads path args) = threads_of path.now (numbers_of args)
-asking never (ThreadsHistory path args) = threads_history_of path.now (numbers_of args)
-asking never (Draw path args) = draw_of path.now (shown_of args)
-asking never (Explore path args) = explore_of path.now (explored_of never args)
-asking never (Live args) = live_of (sizes_of args)
-asking never (Check path args) = check_of path.now (checked_of args)
-asking never (Savings path args) = savings_of path.now (compared_of args)
+-- what parsed arguments ask for, with these conditions
+abbrev pub asking : ConditionTexts → Args → Asked
+asking conditions (Replay path) = replay_of path.now
+asking conditions (ReplayHistory path) = replay_history_of path.now
+asking conditions (Threads path args) = threads_of path.now (numbers_of args)
+asking conditions (ThreadsHistory path args) = threads_history_of path.now (numbers_of args)
+asking conditions (Draw path args) = draw_of path.now (shown_of args)
+asking conditions (Explore path args) = explore_of path.now (explored_of conditions args)
+asking conditions (Live args) = live_of (sizes_of args)
+asking conditions (Check path args) = check_of path.now (checked_of args)
+asking conditions (Savings path args) = savings_of path.now (compared_of args)
 
--- what a parsed command line asks for
-abbrev pub asking_of : Parsed → Asked
-asking_of parsed = asking (texts_of parsed.never) parsed.args
+-- what a request asks for
+abbrev pub asking_of : Request → Asked
+asking_of request = asking (conditions_of request.conditions) request.args
 
--- the words ask for what these arguments ask for, with the patterns that the words have
+-- the words ask for what these arguments ask for, with the conditions that the words have
 abbrev pub IsAsked : List Text → Args → Type 0
-IsAsked words args = asked words ≡ Some (asking (never_asked words) args)
+IsAsked words args = asked words ≡ Some (asking (conditions_asked words) args)
 
--- the words ask for what was parsed, and have its patterns
-pub record IsParsed (words : List Text) (parsed : Parsed) : Type 0 where
-  pub args : IsAsked words parsed.args
-  pub never : texts_of parsed.never ≡ never_asked words
+-- this is the request of the words: its arguments are asked for, and the words have its conditions
+pub record IsRequested (words : List Text) (request : Request) : Type 0 where
+  pub args : IsAsked words request.args
+  pub conditions : conditions_of request.conditions ≡ conditions_asked words
+  pub explains : request.explains ≡ explains_asked words
 
 -- the error that may be reported of the words: out of memory, a fault of the words, or a request for help. If the words
 -- ask for nothing, the error may also be that a value can't be read

@@ -1,10 +1,10 @@
 pub mod CheckArgs
 pub mod CommandLine
+pub mod Conditions
 pub mod DrawArgs
 pub mod ExploreArgs
 pub mod LiveArgs
 pub mod Meshes
-pub mod Patterns
 pub mod SavingsArgs
 pub mod Subcommands
 pub mod ThreadsArgs

@@ -1,6 +1,7 @@
 //! The request of `check`.
-ghost use Rattle.std.specs.Prelude.{◌≡◌, List, ℕ, option_map};
+ghost use Rattle.std.specs.Prelude.{◌≡◌, option_map};
 ghost use Rattle.clap.specs.Words.{found_of, rows_of};
+ghost use Rattle.run_command_line.specs.Conditions.{ConditionTexts};
 ghost use Rattle.run_command_line.specs.CommandLine.{asking, check_of, checked_in, checked_of};
 
 use crate::options::{CONFIGURATIONS, ORDER};
@@ -10,7 +11,7 @@ use clap::ArgMatches;
 
 /// Returns the request of `check` for this file. Returns `None` if the number of configurations isn't in its range.
 pub(crate) fn check<'a>(file: &'a str, matches: &ArgMatches<'a>) -> Option<Args<'a>>
-    ensures { (never : List (List ℕ)) → option_map (asking never) result
+    ensures { (conditions : ConditionTexts) → option_map (asking conditions) result
         ≡ option_map (check_of file.now) (checked_in (rows_of (found_of matches.now))) }
 {
     let checked = checked(matches)?;

@@ -2,10 +2,10 @@
 ghost use Rattle.std.specs.Prelude.{◌≡◌, IfOk};
 ghost use Rattle.clap.specs.Words.{app_of, rule_of};
 ghost use Rattle.run_command_line.specs.Subcommands.{argument_rule, subcommand_app, with_subcommands};
-ghost use Rattle.run_command_line.specs.CommandLine.{bare_app, flag_rule, mesh_rule, meshrun_app, number_rule, text_rule};
+ghost use Rattle.run_command_line.specs.CommandLine.{bare_app, flag_rule, mesh_rule, meshrun_app, number_rule, runs_app, text_rule};
 
 use crate::options::{
-    Argument, FILE, GROUPS, MESH, NumberOption, SUBCOMMANDS, Subcommand, TextOption,
+    Argument, FILE, GROUPS, JUDGEMENTS, MESH, NumberOption, RUNS, Subcommand, TextOption,
 };
 use clap::builder::ValueParser;
 use clap::{Arg, ArgAction, Command};
@@ -31,7 +31,16 @@ Exit statuses:
 pub(crate) fn meshrun_command<'a>(alloc: Global) -> Result<Command<'a>, AllocError>
     ensures { IfOk result (λ command. app_of command ≡ meshrun_app) }
 {
-    with_subcommands(alloc, bare_command(alloc), SUBCOMMANDS)
+    let command = runs_command(alloc)?;
+    with_subcommands(alloc, command, JUDGEMENTS)
+}
+
+/// Returns the program's `clap` command, with the subcommands that run a heap alone. The only error is an allocation
+/// failure.
+fn runs_command<'a>(alloc: Global) -> Result<Command<'a>, AllocError>
+    ensures { IfOk result (λ command. app_of command ≡ runs_app) }
+{
+    with_subcommands(alloc, bare_command(alloc), RUNS)
 }
 
 /// Returns the program's `clap` command without its subcommands.

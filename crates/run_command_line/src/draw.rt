@@ -1,6 +1,7 @@
 //! The request of `draw`.
-ghost use Rattle.std.specs.Prelude.{◌≡◌, List, ℕ, option_map};
+ghost use Rattle.std.specs.Prelude.{◌≡◌, option_map};
 ghost use Rattle.clap.specs.Words.{found_of, rows_of};
+ghost use Rattle.run_command_line.specs.Conditions.{ConditionTexts};
 ghost use Rattle.run_command_line.specs.CommandLine.{asking, draw_of, shown_in, shown_of};
 
 use crate::options::{COLUMNS, FROM, TO};
@@ -10,7 +11,7 @@ use clap::ArgMatches;
 
 /// Returns the request of `draw` for this file. Returns `None` if a number isn't in its range.
 pub(crate) fn draw<'a>(file: &'a str, matches: &ArgMatches<'a>) -> Option<Args<'a>>
-    ensures { (never : List (List ℕ)) → option_map (asking never) result
+    ensures { (conditions : ConditionTexts) → option_map (asking conditions) result
         ≡ option_map (draw_of file.now) (shown_in (rows_of (found_of matches.now))) }
 {
     let shown = shown(matches)?;

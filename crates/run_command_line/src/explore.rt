@@ -1,39 +1,39 @@
 //! The request of `explore`.
 ghost use Rattle.std.specs.Prelude.{◌≡◌, option_map};
 ghost use Rattle.clap.specs.Words.{found_of, rows_of};
-ghost use Rattle.run_command_line.specs.Patterns.{texts_of};
+ghost use Rattle.run_command_line.specs.Conditions.{conditions_of};
 ghost use Rattle.run_command_line.specs.CommandLine.{asking, explore_of, explored_in, explored_of};
 
 use crate::mesh_texts::meshes;
 use crate::options::{ALLOW_NO_MESH, CANCEL, PROGRESS, STATES};
 use crate::told::told;
 use crate::values::{is_given, number_if_given, small_number};
-use crate::{Args, ExploreArgs, Patterns};
+use crate::{Args, Conditions, ExploreArgs};
 use clap::ArgMatches;
 
-/// Returns the request of `explore` for this file, with these patterns. Returns `None` if the program doesn't accept
+/// Returns the request of `explore` for this file, with these conditions. Returns `None` if the program doesn't accept
 /// its options.
 pub(crate) fn explore<'a>(
     file: &'a str,
     matches: &ArgMatches<'a>,
-    never: &Patterns<'a>,
+    conditions: &Conditions<'a>,
 ) -> Option<Args<'a>>
-    ensures { option_map (asking (texts_of never.now)) result
-        ≡ option_map (explore_of file.now) (explored_in (texts_of never.now) (rows_of (found_of matches.now))) }
+    ensures { option_map (asking (conditions_of conditions.now)) result
+        ≡ option_map (explore_of file.now) (explored_in (conditions_of conditions.now) (rows_of (found_of matches.now))) }
 {
-    let explored = explored(matches, never)?;
+    let explored = explored(matches, conditions)?;
     Some(Args::Explore(file, explored))
 }
 
 /// Returns the arguments of `explore`, or `None` if the program doesn't accept its options.
-fn explored<'a>(matches: &ArgMatches<'a>, never: &Patterns<'a>) -> Option<ExploreArgs<'a>>
-    ensures { option_map (explored_of (texts_of never.now)) result
-        ≡ explored_in (texts_of never.now) (rows_of (found_of matches.now)) }
+fn explored<'a>(matches: &ArgMatches<'a>, conditions: &Conditions<'a>) -> Option<ExploreArgs<'a>>
+    ensures { option_map (explored_of (conditions_of conditions.now)) result
+        ≡ explored_in (conditions_of conditions.now) (rows_of (found_of matches.now)) }
 {
     let meshes = meshes(matches)?;
     let cancel = number_if_given(matches, CANCEL)?;
     let states = small_number(matches, STATES)?;
-    let told = told(matches, never)?;
+    let told = told(matches, conditions)?;
     let allows_no_mesh = is_given(matches, ALLOW_NO_MESH)?;
     let is_watched = is_given(matches, PROGRESS)?;
     Some(ExploreArgs {

@@ -32,7 +32,7 @@ pub enum Told<'a> {
     /// An answer in a phase of a mesh, as a job file.
     Answer(ShownArgs<'a>),
     /// A verdict on the outcomes. If a path is given, the outcomes are compared with those that the file at this path
-    /// lists. No outcome may match a pattern.
+    /// lists. The conditions of the request are judged too.
     Verdict(Option<&'a str>),
 }
 

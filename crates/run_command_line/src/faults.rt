@@ -3,9 +3,9 @@ ghost use Rattle.std.specs.Prelude.{◌≡◌, IfOk};
 ghost use Rattle.clap.specs.Words.{kind_of};
 
 use crate::clap_command::{PROGRAM, subcommand_of};
+use crate::conditions::texts;
 use crate::mesh_texts::{first_unread, meshes};
-use crate::never::never;
-use crate::options::{EXPLORE, MESH, SAVINGS, SHOW, Subcommand};
+use crate::options::{ALWAYS, CONDITION, EXISTS, EXPLORE, MESH, NEVER, SAVINGS, SHOW, Subcommand};
 use crate::told::shown_answer;
 use clap::error::ErrorKind;
 use clap::{ArgMatches, Command, Error};
@@ -13,10 +13,8 @@ use std::alloc::{AllocError, Global};
 use std::convert::AsStr;
 
 /// The error message if options of `explore` exclude each other.
-const TOLD_TWICE: &str = "--witness, --show and a verdict (--expect, --never) exclude each other";
-
-/// The error message if more than ten patterns are given.
-const MANY_PATTERNS: &str = "the argument '--never <PATTERN>' cannot be used more than 10 times";
+const TOLD_TWICE: &str =
+    "--witness, --show and a verdict (--expect, --never, --always, --exists) exclude each other";
 
 /// The error message if more than ten meshes are given.
 const MANY_MESHES: &str = "the argument '--mesh <SRC:DST>' cannot be used more than 10 times";
@@ -97,13 +95,15 @@ fn named_command<'a>(
 }
 
 /// Returns the message about options of `explore` that the program doesn't accept. The reasons are meshes that can't be
-/// read or are too many, more than ten patterns, an answer that can't be read, and options that exclude each other.
+/// read or are too many, an option that is given more than ten times, an answer that can't be read, and options that exclude each other.
 fn explore_message<'a>(alloc: Global, matches: &ArgMatches<'a>) -> Result<String, AllocError> {
     if meshes(matches).is_none() {
         return mesh_message(alloc, matches);
     }
-    if never(matches).is_none() {
-        return String::from_str(alloc, MANY_PATTERNS);
+    if let Some(option) = overfull(matches) {
+        return format!(in alloc;
+            "the argument '--{option} <{CONDITION}>' cannot be used more than 10 times"
+        );
     }
     match matches.get_str(SHOW) {
         Some(text) if shown_answer(text).is_none() => format!(in alloc;
@@ -111,6 +111,16 @@ fn explore_message<'a>(alloc: Global, matches: &ArgMatches<'a>) -> Result<String
         ),
         _ => String::from_str(alloc, TOLD_TWICE),
     }
+}
+
+/// Returns the first option for conditions that is given more than ten times. Returns `None` if there is no such option.
+fn overfull<'a>(matches: &ArgMatches<'a>) -> Option<&'static str> {
+    for option in [NEVER, ALWAYS, EXISTS] {
+        if texts(matches, option).is_none() {
+            return Some(option);
+        }
+    }
+    None
 }
 
 /// Returns the message about meshes that the program doesn't accept. The message names the first text that is no pair

@@ -24,6 +24,15 @@ pub(crate) const GROUPS: &str = "SRC:DST";
 /// The name of the flag that asks for the number of found states.
 pub(crate) const PROGRESS: &str = "progress";
 
+/// The name of a condition of a verdict in the help.
+pub(crate) const CONDITION: &str = "COND";
+
+/// The flag that asks for a second line about a fault of a text.
+pub(crate) const EXPLAIN: &str = "explain";
+
+/// What the flag `--explain` does.
+const EXPLAIN_HELP: &str = "Say in a second line on standard error what is wrong in a text";
+
 /// The flag that allows meshes that never begin.
 pub(crate) const ALLOW_NO_MESH: &str = "allow-no-mesh";
 
@@ -242,8 +251,24 @@ pub(crate) const NEVER: &str = "never";
 
 const NEVER_OPTION: TextOption = TextOption {
     name: NEVER,
-    value: "PATTERN",
-    help: "Let no outcome match 'worker W: ANSWER | ..', or several with ' & ' between them; * is any answer; up to 10 times",
+    value: CONDITION,
+    help: "Let no outcome match COND: 'W: ANSWER | ..', or several with ' & ' between them; * is any answer; up to 10 times",
+};
+
+pub(crate) const ALWAYS: &str = "always";
+
+const ALWAYS_OPTION: TextOption = TextOption {
+    name: ALWAYS,
+    value: CONDITION,
+    help: "Let each outcome match COND; up to 10 times",
+};
+
+pub(crate) const EXISTS: &str = "exists";
+
+const EXISTS_OPTION: TextOption = TextOption {
+    name: EXISTS,
+    value: CONDITION,
+    help: "Let some outcome match COND; up to 10 times",
 };
 
 pub(crate) const CONFIGURATIONS: NumberRange = NumberRange {
@@ -353,6 +378,8 @@ pub(crate) const EXPLORE: Subcommand = Subcommand {
         Argument::Text(SHOW_OPTION),
         Argument::Text(EXPECT_OPTION),
         Argument::Texts(NEVER_OPTION),
+        Argument::Texts(ALWAYS_OPTION),
+        Argument::Texts(EXISTS_OPTION),
         Argument::Flag(
             ALLOW_NO_MESH,
             "Let a verdict be positive although some mesh begins in no interleaving",
@@ -384,8 +411,8 @@ pub(crate) const SAVINGS: Subcommand = Subcommand {
     ],
 };
 
-/// The subcommands, in the order in which the help shows them.
-pub(crate) const SUBCOMMANDS: &[Subcommand] = &[
+/// The subcommands that run a heap, in the order in which the help shows them.
+pub(crate) const RUNS: &[Subcommand] = &[
     Subcommand {
         name: "replay",
         about: "Run a job file's plan and print one answer a line",
@@ -396,6 +423,7 @@ pub(crate) const SUBCOMMANDS: &[Subcommand] = &[
                 RECORDED,
                 "Print the journal as a recorded history instead of the answers",
             ),
+            Argument::Flag(EXPLAIN, EXPLAIN_HELP),
         ],
     },
     Subcommand {
@@ -413,6 +441,7 @@ pub(crate) const SUBCOMMANDS: &[Subcommand] = &[
                 RECORDED,
                 "Print the history of all threads as a recorded history instead of each worker's answers",
             ),
+            Argument::Flag(EXPLAIN, EXPLAIN_HELP),
         ],
     },
     Subcommand {
@@ -436,6 +465,10 @@ pub(crate) const SUBCOMMANDS: &[Subcommand] = &[
             Argument::Default(SESSION_WORKERS_OPTION, "64"),
         ],
     },
+];
+
+/// The subcommands that judge, in the order in which the help shows them, behind those that run a heap.
+pub(crate) const JUDGEMENTS: &[Subcommand] = &[
     EXPLORE,
     Subcommand {
         name: "check",

@@ -1,6 +1,7 @@
 //! The request of `savings`.
-ghost use Rattle.std.specs.Prelude.{◌≡◌, List, ℕ, option_map};
+ghost use Rattle.std.specs.Prelude.{◌≡◌, option_map};
 ghost use Rattle.clap.specs.Words.{found_of, rows_of};
+ghost use Rattle.run_command_line.specs.Conditions.{ConditionTexts};
 ghost use Rattle.run_command_line.specs.CommandLine.{asking, compared_in, compared_of, savings_of, seed_in};
 
 use crate::options::{EVERY, FIRST_CALL, FIRST_FIT, LAST_CALL, OBJECT_SEED, PROBE, SVG};
@@ -13,7 +14,7 @@ const SEED_NOT_GIVEN: u64 = 1;
 
 /// Returns the request of `savings` for this file. Returns `None` if the program doesn't accept its options.
 pub(crate) fn savings<'a>(file: &'a str, matches: &ArgMatches<'a>) -> Option<Args<'a>>
-    ensures { (never : List (List ℕ)) → option_map (asking never) result
+    ensures { (conditions : ConditionTexts) → option_map (asking conditions) result
         ≡ option_map (savings_of file.now) (compared_in (rows_of (found_of matches.now))) }
 {
     let compared = compared(matches)?;

@@ -1,6 +1,7 @@
 //! The request of `threads`.
-ghost use Rattle.std.specs.Prelude.{◌≡◌, List, ℕ, option_and_then, option_map};
+ghost use Rattle.std.specs.Prelude.{◌≡◌, option_and_then, option_map};
 ghost use Rattle.clap.specs.Words.{found_of, rows_of};
+ghost use Rattle.run_command_line.specs.Conditions.{ConditionTexts};
 ghost use Rattle.run_command_line.specs.CommandLine.{asking, is_recorded_in, numbers_in, numbers_of, threads_by};
 
 use crate::options::{MESHERS, PROBE, ROUNDS, SEED, WORKERS};
@@ -10,7 +11,7 @@ use clap::ArgMatches;
 
 /// Returns the request of `threads` for this file. Returns `None` if a number isn't in its range.
 pub(crate) fn threads<'a>(file: &'a str, matches: &ArgMatches<'a>) -> Option<Args<'a>>
-    ensures { (never : List (List ℕ)) → option_map (asking never) result
+    ensures { (conditions : ConditionTexts) → option_map (asking conditions) result
         ≡ option_and_then
         (λ numbers. option_map (threads_by file.now numbers) (is_recorded_in (rows_of (found_of matches.now))))
         (numbers_in (rows_of (found_of matches.now))) }
@@ -23,7 +24,7 @@ pub(crate) fn threads<'a>(file: &'a str, matches: &ArgMatches<'a>) -> Option<Arg
 /// Returns the request for a run of a file's scripts in threads. The run prints a recorded history if `is_recorded` is
 /// true, and the answers otherwise.
 fn threads_of(file: &str, args: ThreadsArgs, is_recorded: bool) -> Args<'_>
-    ensures { (never : List (List ℕ)) → asking never result ≡ threads_by file.now (numbers_of args) is_recorded }
+    ensures { (conditions : ConditionTexts) → asking conditions result ≡ threads_by file.now (numbers_of args) is_recorded }
 {
     if is_recorded {
         Args::ThreadsHistory(file, args)

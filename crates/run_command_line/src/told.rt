@@ -1,12 +1,12 @@
 //! The selection of what an exploration prints.
-ghost use Rattle.std.specs.Prelude.{◌≡◌, List, ℕ, option_map};
+ghost use Rattle.std.specs.Prelude.{◌≡◌, option_map};
 ghost use Rattle.clap.specs.Words.{found_of, rows_of};
-ghost use Rattle.run_command_line.specs.Patterns.{texts_of};
+ghost use Rattle.run_command_line.specs.Conditions.{ConditionTexts, conditions_of};
 ghost use Rattle.run_command_line.specs.CommandLine.{asks_verdict, number_of, shown_answer_of, shown_behind, shown_given_in, shown_of_text, told_by, told_in, told_of};
 
 use crate::options::{EXPECT, SHOW, WITNESS};
 use crate::values::{BETWEEN, number_if_given, spelt_number};
-use crate::{Patterns, ShownArgs, Told};
+use crate::{Conditions, ShownArgs, Told};
 use clap::ArgMatches;
 
 /// The greatest number of a line in an option.
@@ -14,21 +14,21 @@ const LAST_LINE: u64 = 4294967295;
 
 /// Returns the selection of what an exploration prints. Returns `None` if more than one of an outcome, an answer and a
 /// verdict is asked for, or if the outcome or the answer can't be read.
-pub(crate) fn told<'a>(matches: &ArgMatches<'a>, never: &Patterns<'a>) -> Option<Told<'a>>
-    ensures { option_map (told_of (texts_of never.now)) result
-        ≡ told_in (texts_of never.now) (rows_of (found_of matches.now)) }
+pub(crate) fn told<'a>(matches: &ArgMatches<'a>, conditions: &Conditions<'a>) -> Option<Told<'a>>
+    ensures { option_map (told_of (conditions_of conditions.now)) result
+        ≡ told_in (conditions_of conditions.now) (rows_of (found_of matches.now)) }
 {
     let witness = number_if_given(matches, WITNESS)?;
     let shown = shown_if_given(matches)?;
     let expect = matches.get_str(EXPECT);
-    told_by(witness, shown, is_verdict(expect, never), expect)
+    told_by(witness, shown, is_verdict(expect, conditions), expect)
 }
 
-/// Whether a verdict is asked for, by `--expect` or `--never`.
-fn is_verdict<'a>(expect: Option<&'a str>, never: &Patterns<'a>) -> bool
-    ensures { result ≡ asks_verdict (option_map (λ path. path.now) expect.entry) (texts_of never.now) }
+/// Whether a verdict is asked for, by `--expect` or a condition.
+fn is_verdict<'a>(expect: Option<&'a str>, conditions: &Conditions<'a>) -> bool
+    ensures { result ≡ asks_verdict (option_map (λ path. path.now) expect.entry) (conditions_of conditions.now) }
 {
-    expect.is_some() || !never.as_slice().is_empty()
+    expect.is_some() || conditions.has_condition()
 }
 
 /// Returns the selection of what an exploration prints. Returns `None` if more than one of an outcome, an answer and a
@@ -39,9 +39,9 @@ fn told_by<'a>(
     is_verdict: bool,
     expect: Option<&'a str>,
 ) -> Option<Told<'a>>
-    ensures { (never : List (List ℕ)) → option_map (told_of never) result
+    ensures { (conditions : ConditionTexts) → option_map (told_of conditions) result
         ≡ told_by witness (option_map shown_answer_of shown.entry) is_verdict
-        (record { expect = option_map (λ path. path.now) expect.entry; never = never }) }
+        (record { expect = option_map (λ path. path.now) expect.entry; conditions = conditions }) }
 {
     match (witness, shown, is_verdict) {
         (None, None, true) => Some(Told::Verdict(expect)),

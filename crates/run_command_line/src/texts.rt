@@ -1,31 +1,31 @@
-//! The list of the patterns that no outcome may match.
+//! The texts of an option that may be given several times.
 ghost use Rattle.std.specs.Prelude.{◌≡◌, ◌<◌, ◌≤◌, ◌+◌, [], ◌∷◌, ◌++◌, length, map, take};
 
-/// The greatest number of patterns in a verdict.
-pub(crate) const MOST_PATTERNS: usize = 10;
+/// The greatest number of texts of an option.
+pub(crate) const MOST_TEXTS: usize = 10;
 
-/// Up to ten patterns, as texts, in the order in which they were given.
+/// Up to ten texts of an option, in the order in which they were given.
 #[derive(Clone, Copy)]
-pub struct Patterns<'a> {
+pub struct Texts<'a> {
     // The texts at index `count` and above are unused and empty.
-    texts: [&'a str; MOST_PATTERNS],
+    texts: [&'a str; MOST_TEXTS],
     count: usize,
     pub ghost fits: { count ≤ 10 },
 }
 
-impl<'a> Patterns<'a> {
-    /// Returns an empty list of patterns.
-    pub(crate) fn none() -> Patterns<'a>
+impl<'a> Texts<'a> {
+    /// Returns an empty list of texts.
+    pub(crate) fn none() -> Texts<'a>
         ensures texts { take result.count result.texts ≡ [] }
         ensures count { result.count ≡ 0 }
     {
-        Patterns {
-            texts: [""; MOST_PATTERNS],
+        Texts {
+            texts: [""; MOST_TEXTS],
             count: 0,
         }
     }
 
-    /// Returns the texts of the patterns in their order.
+    /// Returns the texts in their order.
     pub fn as_slice(&self) -> &[&'a str]
         ensures texts { result.now ≡ take self.now.count self.now.texts }
         ensures few { length result.now ≤ 10 }
@@ -33,7 +33,7 @@ impl<'a> Patterns<'a> {
         &self.texts[..self.count]
     }
 
-    /// Appends a pattern to the list, which must have fewer than ten.
+    /// Appends a text to the list, which must have fewer than ten.
     pub(crate) fn add(&mut self, text: &'a str)
         requires { self.old.count < 10 }
         ensures texts { take self.new.count self.new.texts ≡ take self.old.count self.old.texts ++ text.entry ∷ [] }
