@@ -1,6 +1,7 @@
 pub mod BegunMeshes
 pub mod Blocks
 pub mod Colons
+pub mod ConditionLines
 pub mod Runs
 pub mod Sets
 pub mod Texts

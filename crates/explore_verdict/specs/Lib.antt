@@ -1,10 +1,10 @@
 pub mod Begun
 pub mod Compared
+pub mod Conditions
 pub mod Expected
 pub mod Judged
 pub mod ListFaults
 pub mod Mismatches
-pub mod Never
 pub mod Patterns
 pub mod Runs
 pub mod Unseen

@@ -1,5 +1,5 @@
 -- Why no outcome of a job can match a pattern. This project's own choice.
-use Rattle.std.specs.Prelude.{◌≡◌, ℕ, ◌+◌, ◌-◌, Bool, not, ◌&&◌, ◌||◌, if◌then◌else◌, nat_le, nat_lt, List, [], ◌∷◌, Option, Some, None, codes, is_ok, length, option_map, slice_get, slice_index}
+use Rattle.std.specs.Prelude.{◌≡◌, ℕ, ◌-◌, Bool, not, ◌&&◌, ◌||◌, if◌then◌else◌, nat_le, nat_lt, List, [], ◌∷◌, Option, Some, None, codes, is_ok, length, option_map, slice_get, slice_index}
 use Rattle.std.specs.List.{list_all, list_any}
 use Rattle.std.specs.Option.{option_or}
 use Rattle.model_jobs.specs.JobFiles.{are_same, is_empty}
@@ -7,6 +7,7 @@ use Rattle.text_fields.specs.Lines.{line_fields}
 use Rattle.text_words.specs.ReplyWords.{answer_in}
 use Rattle.explore_interleavings.specs.ExploreStates.{ExploreState, Setting, script_of}
 use Rattle.explore_verdict.specs.Patterns.{Clause, Wanted, inner}
+use Rattle.explore_verdict.specs.declared.condition.Condition.{Condition}
 use Rattle.explore_verdict.specs.declared.mismatches.Mismatch.{Mismatch}
 use Rattle.explore_verdict.specs.declared.mismatches.Unmatchable.{Unmatchable}
 use Rattle.explore_verdict.specs.declared.mismatches.Mismatch.TheVariants.{NoWorker, NoAnswer, TooManyAnswers}
@@ -46,18 +47,21 @@ mismatch_in x s (clause ∷ clauses) = option_or (clause_mismatch x s clause) (m
 abbrev pub mismatch_of : Setting → ExploreState → Wanted → Option Mismatch
 mismatch_of x s wanted = mismatch_in x s wanted.clauses
 
--- the first pattern that no outcome can match. The first pattern has this number
-abbrev pub first_mismatch : Setting → ExploreState → ℕ → List Wanted → Option Unmatchable
-first_mismatch x s number [] = None
-first_mismatch x s number (wanted ∷ patterns) =
-    option_or (option_map (λ why. record { number = number; mismatch = why }) (mismatch_of x s wanted)) (first_mismatch x s (number + 1) patterns)
+-- the condition, and why no outcome can match its pattern
+abbrev pub unmatchable : Condition → Mismatch → Unmatchable
+unmatchable condition why = record { demand = condition.demand; number = condition.number; mismatch = why }
 
--- the pattern is the first that no outcome can match. The first of the states is the initial one
-pub record IsUnmatchable (x : Setting) (states : List ExploreState) (patterns : List Wanted) (unmatchable : Unmatchable) : Type 0 where
+-- the first condition whose pattern no outcome can match
+abbrev pub first_mismatch : Setting → ExploreState → List Condition → Option Unmatchable
+first_mismatch x s [] = None
+first_mismatch x s (condition ∷ conditions) = option_or (option_map (unmatchable condition) (mismatch_of x s condition.pattern)) (first_mismatch x s conditions)
+
+-- the condition is the first whose pattern no outcome can match. The first of the states is the initial one
+pub record IsUnmatchable (x : Setting) (states : List ExploreState) (conditions : List Condition) (unmatchable : Unmatchable) : Type 0 where
   pub start : ExploreState
   pub first : slice_get states 0 ≡ Some start
-  pub found : first_mismatch x start 1 patterns ≡ Some unmatchable
+  pub found : first_mismatch x start conditions ≡ Some unmatchable
 
--- outcomes can match each pattern
-abbrev pub AreMatchable : Setting → List ExploreState → List Wanted → Type 0
-AreMatchable x states patterns = (start : ExploreState) → slice_get states 0 ≡ Some start → first_mismatch x start 1 patterns ≡ None
+-- outcomes can match the pattern of each condition
+abbrev pub AreMatchable : Setting → List ExploreState → List Condition → Type 0
+AreMatchable x states conditions = (start : ExploreState) → slice_get states 0 ≡ Some start → first_mismatch x start conditions ≡ None

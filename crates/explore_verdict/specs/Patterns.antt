@@ -1,11 +1,12 @@
 -- Patterns of a worker's replies, and the outcomes that match them. This project's own choice.
-use Rattle.std.specs.Prelude.{ℕ, ◌-◌, Bool, true, false, ◌&&◌, ◌||◌, if◌then◌else◌, nat_eq, nat_le, List, [], ◌∷◌, ◌++◌, Option, Some, None, option_and_then, option_map, Result, Ok, Err, codes, drop, length, slice_index_or, take}
-use Rattle.std.specs.List.{ends_with, list_all, list_any, slice_split, starts_with}
+use Rattle.std.specs.Prelude.{ℕ, ◌-◌, Bool, true, false, ◌&&◌, ◌||◌, if◌then◌else◌, nat_eq, nat_le, List, [], ◌∷◌, ◌++◌, Option, Some, None, option_map, Result, Ok, Err, codes, drop, length, slice_index_or, take, unwrap_or}
+use Rattle.std.specs.List.{ends_with, list_all, slice_split, starts_with}
 use Rattle.std.specs.Cmp.Lexicographic.{pointwise}
 use Rattle.model_jobs.specs.JobFiles.{are_same, number_in}
 use Rattle.model_jobs.specs.Texts.{reply_text}
 use Rattle.model_words.specs.declared.commands.Reply.{Reply}
 use Rattle.model_words.specs.declared.faults.FaultKind.{FaultKind}
+use Rattle.explore_interleavings.specs.ExploreStates.{ExploreState}
 
 -- a worker, and a piece for each of its replies. A piece is a reply's text between two spaces, or a beginning of it and
 -- a star, as ` bytes * ` or ` * `
@@ -46,11 +47,12 @@ is_clause_met told clause = are_met clause.pieces (slice_index_or told clause.wo
 abbrev pub is_match : Wanted → List (List Reply) → Bool
 is_match wanted told = list_all (is_clause_met told) wanted.clauses
 
--- whether the workers' replies match one of the patterns
-abbrev pub any_match : List Wanted → List (List Reply) → Bool
-any_match patterns told = list_any (λ wanted. is_match wanted told) patterns
+-- the workers' replies in a state, if there is one
+abbrev pub told_in : Option ExploreState → List (List Reply)
+told_in None = []
+told_in (Some s) = s.told
 
--- ---- how a clause is spelt: `worker W: ANSWER | ANSWER ..`
+-- ---- how a clause is spelt: `W: ANSWER | ANSWER ..` or `worker W: ANSWER | ANSWER ..`
 
 -- the text after `front`, or None if the text doesn't begin with `front`
 abbrev pub behind : List ℕ → List ℕ → Option (List ℕ)
@@ -81,9 +83,9 @@ of_sides (number ∷ answers ∷ more ∷ sides) = None
 abbrev pub sides_of : List ℕ → Option Clause
 sides_of text = of_sides (slice_split (λ b. nat_eq b 58) text)
 
--- the clause that a text spells, or None if it spells none
+-- the clause that a text spells, or None if it spells none. The word `worker` may be left out
 abbrev pub clause_of : List ℕ → Option Clause
-clause_of text = option_and_then sides_of (behind (codes "worker ") text)
+clause_of text = sides_of (unwrap_or (behind (codes "worker ") text) text)
 
 -- ---- how a pattern is spelt: clauses with ` & ` between them
 

@@ -27,14 +27,14 @@ impl Model for Clause {
 }
 
 impl Clause {
-    /// Returns the clause that a text spells: `worker W: ANSWER | ANSWER ..`, with a worker from 0 to 63, at least one
-    /// answer, and `*` for any answer. `None` if the text spells no clause.
+    /// Returns the clause that a text spells: `W: ANSWER | ANSWER ..` or `worker W: ANSWER | ANSWER ..`, with a worker
+    /// from 0 to 63, at least one answer, and `*` for any answer. `None` if the text spells no clause.
     pub fn spelt(alloc: Global, text: &[u8]) -> Result<Option<Clause>, AllocError>
         ensures { IfOk result (λ clause. clause ≡ clause_of text.now) }
     {
         match behind(text, b"worker ") {
             Some(rest) => of_sides(alloc, rest),
-            None => Ok(None),
+            None => of_sides(alloc, text),
         }
     }
 

@@ -15,7 +15,7 @@ pub enum VerdictFault {
     Explore(ExploreError),
     /// The text of the expected outcomes is no list of outcomes.
     NoList(ListFault),
-    /// No outcome can match a pattern.
+    /// No outcome can match the pattern of a condition.
     Unmatched(Unmatchable),
 }
 

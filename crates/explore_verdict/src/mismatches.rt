@@ -1,10 +1,11 @@
-//! Finds patterns that no outcome can match.
+//! Finds conditions whose patterns no outcome can match.
 ghost use Rattle.std.specs.Prelude.{◌≡◌, ◌<◌, Some, None, IfSome, IsNone, length, slice_get};
 ghost use Rattle.std.specs.List.{list_all};
 ghost use Rattle.explore_verdict.specs.Mismatches.{AreMatchable, IsUnmatchable, clause_mismatch, commands_left, first_mismatch, is_answer, is_any, is_spelt, mismatch_in, mismatch_of};
 
 use crate::block::Block;
 use crate::clause::Clause;
+use crate::condition::{Condition, Demand};
 use crate::pattern::{Pattern, inner};
 use explore_interleavings::{Explorer, StateAt};
 use states_reach::Reached;
@@ -26,41 +27,45 @@ pub enum Mismatch {
     TooManyAnswers,
 }
 
-/// A pattern that no outcome can match.
+/// A condition whose pattern no outcome can match.
 #[derive(Clone, Copy, Debug, PartialEq, Eq)]
 pub struct Unmatchable {
-    /// The number of the pattern, counted from 1.
-    pub number: usize,
-    /// Why no outcome can match it.
+    /// What the condition demands.
+    pub demand: Demand,
+    /// The number of the condition among those of this demand, counted from 1.
+    pub number: u32,
+    /// Why no outcome can match the pattern.
     pub mismatch: Mismatch,
 }
 
-/// Returns the first pattern that no outcome can match, or `None` if outcomes can match each.
+/// Returns the first condition whose pattern no outcome can match, or `None` if outcomes can match each.
 pub(crate) fn unmatchable_in(
     reached: &Reached<Explorer<'_>>,
-    patterns: &[Pattern],
+    conditions: &[Condition],
 ) -> Option<Unmatchable>
-    ensures some { IfSome result (IsUnmatchable reached.now.system.setting reached.now.system.states patterns.now) }
-    ensures none { IsNone result → AreMatchable reached.now.system.setting reached.now.system.states patterns.now }
+    ensures some { IfSome result (IsUnmatchable reached.now.system.setting reached.now.system.states conditions.now) }
+    ensures none { IsNone result → AreMatchable reached.now.system.setting reached.now.system.states conditions.now }
 {
     match reached.system.at(0) {
-        Some(state) => first_mismatch(&state, patterns),
+        Some(state) => first_mismatch(&state, conditions),
         None => None,
     }
 }
 
-/// Returns the first pattern that no outcome can match, or `None` if outcomes can match each. `state` is the initial
-/// state.
-fn first_mismatch(state: &StateAt<'_>, patterns: &[Pattern]) -> Option<Unmatchable>
-    ensures { result ≡ first_mismatch state.now.setting state.now.state 1 patterns.now }
+/// Returns the first condition whose pattern no outcome can match, or `None` if outcomes can match each. `state` is the
+/// initial state.
+fn first_mismatch(state: &StateAt<'_>, conditions: &[Condition]) -> Option<Unmatchable>
+    ensures { result ≡ first_mismatch state.now.setting state.now.state conditions.now }
 {
-    let mut number = 1;
-    let mut rest = patterns;
-    while let [pattern, behind @ ..] = rest {
-        if let Some(mismatch) = mismatch_of(state, pattern) {
-            return Some(Unmatchable { number, mismatch });
+    let mut rest = conditions;
+    while let [condition, behind @ ..] = rest {
+        if let Some(mismatch) = mismatch_of(state, &condition.pattern) {
+            return Some(Unmatchable {
+                demand: condition.demand,
+                number: condition.number,
+                mismatch,
+            });
         }
-        number += 1;
         rest = behind;
     }
     None

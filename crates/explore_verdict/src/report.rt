@@ -1,10 +1,16 @@
-//! The text of a verdict that fails.
-use crate::judging::Verdict;
-use crate::never::is_match;
-use crate::pattern::Pattern;
+//! The verdict on the outcomes of a listing, and its text.
+ghost use Rattle.std.specs.Prelude.{◌≡◌, ◌↔◌, ◌++◌, true, IfOk, OnOk, codes, decimal, length};
+ghost use Rattle.std.specs.Option.{option_copied};
+ghost use Rattle.model_jobs.specs.Texts.{ended};
+ghost use Rattle.explore_verdict.specs.Judged.{HaveStates, IsClean};
+ghost use Rattle.explore_verdict.specs.Runs.{IsWell, MeetExpected, expected_line, well_text};
+
+use crate::condition::Condition;
+use crate::conditions::add_conditions;
+use crate::judging::{Verdict, judged};
 use explore_interleavings::Explorer;
 use explore_report::{Listing, add_outcome, printed_order};
-use states_reach::{Reached, System};
+use states_reach::Reached;
 use std::alloc::{AllocError, Global};
 use text_words::add_decimal;
 
@@ -15,91 +21,110 @@ pub(crate) struct Report {
     pub text: Vec<u8>,
 }
 
-/// Returns the text of a verdict that fails: the missing outcomes; the unexpected outcomes, in the order of the
-/// listing; and for each pattern that outcomes match, how many do and the first of them in this order.
-pub(crate) fn fault_text(
+/// Returns the verdict on the outcomes of a listing, with its text: whether they are the expected ones, and what is said
+/// of each condition.
+pub(crate) fn report_of(
     alloc: Global,
     reached: &Reached<Explorer<'_>>,
     listing: &Listing,
-    verdict: &Verdict,
-    never: &[Pattern],
-) -> Result<Vec<u8>, AllocError> {
-    let mut text = Vec::new(alloc);
-    for block in &verdict.missing {
-        text.extend_from_slice(b"missing:\n")?;
-        text.extend_from_slice(block.as_slice())?;
-    }
+    expected: Option<&[u8]>,
+    conditions: &[Condition],
+) -> Result<Report, AllocError>
+    requires { HaveStates reached.now.system.states listing.now.outcomes.items }
+    ensures well { IfOk result (λ report. (report.well ≡ true)
+        ↔ IsWell reached.now.system.states listing.now.outcomes.items conditions.now (option_copied expected.entry)) }
+    ensures line { IfOk result (λ report. report.well ≡ true → report.text.items
+        ≡ well_text reached.now.system.states listing.now.outcomes.items conditions.now (option_copied expected.entry)) }
+{
     let order = printed_order(alloc, reached, listing.outcomes.as_slice())?;
-    for (number, place) in order.iter().enumerate() {
-        if verdict.unexpected.as_slice().binary_search(place).is_ok() {
-            text.extend_from_slice(b"unexpected:\n")?;
-            add_numbered(alloc, &mut text, reached, listing, *place, number)?;
-        }
-    }
-    for place in 0..never.len() {
-        let pattern = &never[place];
-        let order = order.as_slice();
-        add_matches(
-            alloc,
-            &mut text,
-            reached,
-            listing,
-            order,
-            pattern,
-            place + 1,
-        )?;
-    }
-    Ok(text)
+    let mut text = Vec::new(alloc);
+    let order = order.as_slice();
+    let is_expected = add_expected(alloc, &mut text, reached, listing, order, expected)?;
+    let hold = add_conditions(alloc, &mut text, reached, listing, order, conditions)?;
+    Ok(Report {
+        well: is_expected && hold,
+        text,
+    })
 }
 
-/// Appends how many outcomes match a pattern, and the first of them. `order` has the places of all outcomes in the
-/// order of the listing. The pattern has this number, counted from 1. Appends nothing if no outcome matches.
-fn add_matches(
+/// Adds what is said of the expected outcomes, if a text lists them. Returns whether the outcomes are those.
+fn add_expected(
     alloc: Global,
     text: &mut Vec<u8>,
     reached: &Reached<Explorer<'_>>,
     listing: &Listing,
     order: &[usize],
-    pattern: &Pattern,
-    number: usize,
-) -> Result<(), AllocError> {
-    let mut matching = Vec::new(alloc);
-    for (number, place) in order.iter().enumerate() {
-        if is_match_at(alloc, reached, listing, *place, pattern)? {
-            matching.push((number, *place))?;
-        }
+    expected: Option<&[u8]>,
+) -> Result<bool, AllocError>
+    requires { HaveStates reached.now.system.states listing.now.outcomes.items }
+    ensures is { IfOk result (λ is. (is ≡ true)
+        ↔ MeetExpected reached.now.system.states listing.now.outcomes.items (option_copied expected.entry)) }
+    ensures line { IfOk result (λ is. is ≡ true → text.new.items
+        ≡ text.old.items ++ expected_line (option_copied expected.entry) (length listing.now.outcomes.items)) }
+{
+    match expected {
+        Some(expected) => add_compared(alloc, text, reached, listing, order, expected),
+        None => Ok(true),
     }
-    let Some((first, place)) = matching.get(0) else {
-        return Ok(());
-    };
-    text.extend_from_slice(b"never ")?;
-    add_decimal(text, number as u64)?;
-    text.extend_from_slice(b": ")?;
-    add_decimal(text, matching.len() as u64)?;
-    text.extend_from_slice(b" of ")?;
-    add_decimal(text, order.len() as u64)?;
-    text.extend_from_slice(b" outcomes\n")?;
-    add_numbered(alloc, text, reached, listing, *place, *first)
 }
 
-/// Whether the outcome at a place of the list matches a pattern.
-fn is_match_at(
+/// Adds what is said of the expected outcomes. Returns whether the outcomes are those.
+fn add_compared(
     alloc: Global,
+    text: &mut Vec<u8>,
     reached: &Reached<Explorer<'_>>,
     listing: &Listing,
-    place: usize,
-    pattern: &Pattern,
-) -> Result<bool, AllocError> {
-    let Some(outcome) = listing.outcomes.get(place) else {
-        return Ok(false);
-    };
-    match reached.system.at(outcome.place) {
-        Some(state) => is_match(alloc, state.told(), pattern),
-        None => Ok(false),
+    order: &[usize],
+    expected: &[u8],
+) -> Result<bool, AllocError>
+    requires { HaveStates reached.now.system.states listing.now.outcomes.items }
+    ensures is { IfOk result (λ is. (is ≡ true)
+        ↔ MeetExpected reached.now.system.states listing.now.outcomes.items (Some expected.now)) }
+    ensures line { IfOk result (λ is. is ≡ true → text.new.items
+        ≡ text.old.items ++ expected_line (Some expected.now) (length listing.now.outcomes.items)) }
+{
+    let verdict = judged(alloc, reached, listing, expected)?;
+    if verdict.is_as_expected() {
+        add_counted(text, b"as expected: ", listing.outcomes.as_slice().len())?;
+        return Ok(true);
     }
+    add_differences(alloc, text, reached, listing, order, &verdict)?;
+    Ok(false)
 }
 
-/// Appends the text of the outcome at a place of the list, with its number in the listing.
+/// Adds a line of some words and the number of outcomes.
+fn add_counted(text: &mut Vec<u8>, words: &[u8], count: usize) -> Result<(), AllocError>
+    ensures { OnOk result (text.new.items ≡ text.old.items ++ ended (words.now ++ decimal count ++ codes " outcomes")) }
+{
+    text.extend_from_slice(words)?;
+    add_decimal(text, count as u64)?;
+    text.extend_from_slice(b" outcomes\n")
+}
+
+/// Adds the differences between the outcomes and the expected ones: the missing outcomes, and the unexpected outcomes
+/// in the order of the listing.
+fn add_differences(
+    alloc: Global,
+    text: &mut Vec<u8>,
+    reached: &Reached<Explorer<'_>>,
+    listing: &Listing,
+    order: &[usize],
+    verdict: &Verdict,
+) -> Result<(), AllocError> {
+    for block in &verdict.missing {
+        text.extend_from_slice(b"missing:\n")?;
+        text.extend_from_slice(block.as_slice())?;
+    }
+    for (number, place) in order.iter().enumerate() {
+        if verdict.unexpected.as_slice().binary_search(place).is_ok() {
+            text.extend_from_slice(b"unexpected:\n")?;
+            add_numbered(alloc, text, reached, listing, *place, number)?;
+        }
+    }
+    Ok(())
+}
+
+/// Adds the text of the outcome at a place of the list, with its number in the listing.
 fn add_numbered(
     alloc: Global,
     text: &mut Vec<u8>,

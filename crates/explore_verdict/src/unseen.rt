@@ -1,11 +1,11 @@
 //! Finds answers of patterns that occur in no outcome.
-ghost use Rattle.std.specs.Prelude.{◌≡◌, ◌++◌, ◌<◌, ◌^◌, IfOk, OnOk, slice_get};
-ghost use Rattle.explore_verdict.specs.Unseen.{is_met_at, is_seen, told_in, unseen_from, unseen_in, unseen_line, unseen_lines, unseen_told};
+ghost use Rattle.std.specs.Prelude.{◌≡◌, ◌++◌, IfOk, OnOk, Some, slice_get};
+ghost use Rattle.explore_verdict.specs.Patterns.{told_in};
+ghost use Rattle.explore_verdict.specs.Unseen.{is_met_at, is_seen, unseen_from, unseen_in, unseen_text};
 
 use crate::block::Block;
 use crate::clause::Clause;
-use crate::never::{is_met, replies_of};
-use crate::pattern::Pattern;
+use crate::matching::{is_met, replies_of};
 use explore_interleavings::{Explorer, Told};
 use explore_report::Outcome;
 use states_reach::System;
@@ -21,54 +21,29 @@ pub(crate) struct Unseen {
     pub answer: usize,
 }
 
-/// Adds a line for each pattern with an answer that no outcome has.
-pub(crate) fn add_unseen(
-    alloc: Global,
-    text: &mut Vec<u8>,
-    states: &Explorer<'_>,
-    outcomes: &[Outcome],
-    patterns: &[Pattern],
-) -> Result<(), AllocError>
-    ensures { OnOk result
-        (text.new.items ≡ text.old.items ++ unseen_lines states.now.states outcomes.now 1 patterns.now) }
-{
-    let mut number = 1;
-    let mut rest = patterns;
-    while let [pattern, behind @ ..] = rest {
-        let unseen = unseen_in(alloc, states, outcomes, pattern.clauses())?;
-        add_told(text, number, unseen)?;
-        number += 1;
-        rest = behind;
-    }
-    Ok(())
-}
-
-/// Adds the line for an answer that no outcome has, if there is one.
-fn add_told(text: &mut Vec<u8>, number: usize, unseen: Option<Unseen>) -> Result<(), AllocError>
-    ensures { OnOk result (text.new.items ≡ text.old.items ++ unseen_told number unseen) }
+/// Adds what the line of a condition says of an answer that no outcome has, if there is one.
+pub(crate) fn add_unseen(text: &mut Vec<u8>, unseen: Option<Unseen>) -> Result<(), AllocError>
+    ensures { OnOk result (text.new.items ≡ text.old.items ++ unseen_text unseen) }
 {
     match unseen {
-        Some(unseen) => add_line(text, number, unseen),
+        Some(unseen) => add_unseen_answer(text, unseen),
         None => Ok(()),
     }
 }
 
-/// Adds the line for an answer that no outcome has.
-fn add_line(text: &mut Vec<u8>, number: usize, unseen: Unseen) -> Result<(), AllocError>
-    ensures { OnOk result (text.new.items ≡ text.old.items ++ unseen_line number unseen) }
+/// Adds what the line of a condition says of an answer that no outcome has.
+fn add_unseen_answer(text: &mut Vec<u8>, unseen: Unseen) -> Result<(), AllocError>
+    ensures { OnOk result (text.new.items ≡ text.old.items ++ unseen_text (Some unseen)) }
 {
-    text.extend_from_slice(b"never ")?;
-    add_decimal(text, number as u64)?;
-    text.extend_from_slice(b": no outcome has answer ")?;
+    text.extend_from_slice(b"; no outcome has answer ")?;
     add_decimal(text, unseen.answer as u64)?;
     text.extend_from_slice(b" of worker ")?;
     add_decimal(text, u64::from(unseen.worker))?;
-    text.push(b'\n')?;
     Ok(())
 }
 
 /// Returns the first answer of these clauses that no outcome has, or `None` if outcomes have each.
-fn unseen_in(
+pub(crate) fn unseen_in(
     alloc: Global,
     states: &Explorer<'_>,
     outcomes: &[Outcome],

@@ -1,12 +1,9 @@
-use Rattle.std.proofs.Common.{◌≡◌, ◌+◌, ◌≤◌, length}
+use Rattle.std.proofs.Common.{◌≡◌, length}
 use Rattle.explore_verdict.specs.Mismatches.{first_mismatch}
 use Rattle.explore_verdict.proofs.mismatches.first_mismatch.Given as goal
 
 abbrev pub invariant-loop-rest : goal.invariant-loop-rest
-invariant-loop-rest l = record {
-  goes : first_mismatch l.state.setting l.state.state l.number l.rest ≡ first_mismatch l.state.setting l.state.state 1 l.patterns;
-  few : l.number + length l.rest ≤ 1 + length l.patterns;
-}
+invariant-loop-rest l = first_mismatch l.state.setting l.state.state l.rest ≡ first_mismatch l.state.setting l.state.state l.conditions
 
 abbrev pub decreases-loop-rest : goal.decreases-loop-rest
 decreases-loop-rest l = length l.rest

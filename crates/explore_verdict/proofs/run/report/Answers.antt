@@ -13,7 +13,7 @@ returns-in-Some-clause-report g c =
     record {
       reached = reached;
       explored = c.in_ok-all.ensures.explored;
-      is = subst (λ (x : Setting). IsUnmatchable x reached.system.states c.args.options.now.never.now c.in-Some.pattern) c.in_ok-all.ensures.explored.setting
+      is = subst (λ (x : Setting). IsUnmatchable x reached.system.states c.args.options.now.conditions.now c.in-Some.pattern) c.in_ok-all.ensures.explored.setting
           c.in-Some.ensures.some;
     }
 
@@ -28,7 +28,7 @@ returns-clause-report g c =
       lists = c.in_ok-all.ensures.listed;
       is_well = c.in_ok-report.ensures.well;
       line = c.in_ok-report.ensures.line;
-      matchable = subst (λ (x : Setting). AreMatchable x reached.system.states c.args.options.now.never.now) c.in_ok-all.ensures.explored.setting
+      matchable = subst (λ (x : Setting). AreMatchable x reached.system.states c.args.options.now.conditions.now) c.in_ok-all.ensures.explored.setting
           (c.in_default.ensures.none refl);
       unbegun = c.in_ok-report.ensures.unbegun;
     }

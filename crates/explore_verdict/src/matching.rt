@@ -1,74 +1,16 @@
-//! Finds the first outcome, among those of a listing, that matches a pattern.
-ghost use Rattle.std.specs.Prelude.{◌≡◌, ◌<◌, [], ℕ, None, IfOk, IfSome, length, slice_index_or};
+//! Matches the workers' replies with patterns.
+ghost use Rattle.std.specs.Prelude.{◌≡◌, [], IfOk, slice_index_or};
 ghost use Rattle.std.specs.List.{list_all};
-ghost use Rattle.explore_verdict.specs.Judged.{HaveStates};
-ghost use Rattle.explore_verdict.specs.Never.{IsForbidden, IsMatchAt};
-ghost use Rattle.explore_verdict.specs.Patterns.{any_match, are_met, is_begun_by, is_clause_met, is_match, is_met};
+ghost use Rattle.explore_verdict.specs.Patterns.{are_met, is_begun_by, is_clause_met, is_match, is_met};
 
 use crate::block::Block;
 use crate::clause::Clause;
-use crate::judging::outcome_at;
 use crate::pattern::Pattern;
-use explore_interleavings::{Explorer, Told};
-use explore_report::Listing;
+use explore_interleavings::Told;
 use model_words::Reply;
-use states_reach::{Reached, System};
 use std::alloc::{AllocError, Global};
 use text_fields::lines::is_word;
 use text_words::add_reply;
-
-/// Returns the place, in a listing's outcomes, of the first outcome that matches one of the patterns. `None` if there
-/// is no such outcome.
-pub fn first_match(
-    alloc: Global,
-    reached: &Reached<Explorer<'_>>,
-    listing: &Listing,
-    patterns: &[Pattern],
-) -> Result<Option<usize>, AllocError>
-    requires { HaveStates reached.now.system.states listing.now.outcomes.items }
-    ensures some { IfOk result
-        (λ found. IfSome found (IsForbidden reached.now.system.states listing.now.outcomes.items patterns.now)) }
-    ensures first { IfOk result (λ found. IfSome found (λ place. (earlier : ℕ) → earlier < place
-        → IsForbidden reached.now.system.states listing.now.outcomes.items patterns.now earlier → ⊥)) }
-    ensures none { IfOk result (λ found. found ≡ None → (place : ℕ)
-        → IsForbidden reached.now.system.states listing.now.outcomes.items patterns.now place → ⊥) }
-{
-    for at in 0..listing.outcomes.len() {
-        let outcome = outcome_at(listing.outcomes.as_slice(), at);
-        if matches_at(alloc, &reached.system, outcome.place, patterns)? {
-            return Ok(Some(at));
-        }
-    }
-    Ok(None)
-}
-
-/// Whether the workers' replies in the state at a place match one of the patterns.
-fn matches_at(
-    alloc: Global,
-    states: &Explorer<'_>,
-    place: usize,
-    patterns: &[Pattern],
-) -> Result<bool, AllocError>
-    requires { place < length states.now.states }
-    ensures { IfOk result (IsMatchAt states.now.states place patterns.now) }
-{
-    match states.at(place) {
-        Some(state) => any_match(alloc, state.told(), patterns),
-        None => Ok(false),
-    }
-}
-
-/// Whether the workers' replies match one of the patterns.
-fn any_match(alloc: Global, told: &[Told], patterns: &[Pattern]) -> Result<bool, AllocError>
-    ensures { IfOk result (λ is. is ≡ any_match patterns.now told.now) }
-{
-    for pattern in patterns {
-        if is_match(alloc, told, pattern)? {
-            return Ok(true);
-        }
-    }
-    Ok(false)
-}
 
 /// Whether the workers' replies match a pattern.
 pub(crate) fn is_match(alloc: Global, told: &[Told], pattern: &Pattern) -> Result<bool, AllocError>
