@@ -13,7 +13,7 @@ use Rattle.run_program.specs.Runs.{HasTold}
 use Rattle.run_program.specs.Seen.{Seen}
 use Rattle.run_program.specs.declared.criteria.Criteria.{Criteria}
 use Rattle.run_program.specs.declared.verdict_error.VerdictError.{VerdictError}
-use Rattle.run_program.specs.declared.verdict_error.VerdictError.TheVariants.{Explore, NoList, NoPattern, Unmatched}
+use Rattle.run_program.specs.declared.verdict_error.VerdictError.TheVariants.{Explore, NoCondition, NoList, Unmatched}
 
 -- ---- what is known of an error
 
@@ -75,8 +75,8 @@ explore_bounds NotShown = (omega arith, omega arith)
 
 verdict_bounds : (error : VerdictError) → (1 ≤ verdict_status error) × (verdict_status error ≤ 4)
 verdict_bounds (Explore error) = explore_bounds error
-verdict_bounds (NoPattern number) = (omega arith, omega arith)
-verdict_bounds (Unmatched pattern) = (omega arith, omega arith)
+verdict_bounds (NoCondition demand number) = (omega arith, omega arith)
+verdict_bounds (Unmatched condition) = (omega arith, omega arith)
 verdict_bounds (NoList fault) = (omega arith, omega arith)
 
 module _ (args : ExploreArgs) (before after : Seen) (status : ℕ) where

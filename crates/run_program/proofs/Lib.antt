@@ -3,7 +3,6 @@ pub mod ExploreEnds
 pub mod FirstWords
 pub mod Messages
 mod OrderEnds
-pub mod PatternsSpelt
 pub mod SavingsEnds
 pub mod ThreadEnds
 mod TwoClauses

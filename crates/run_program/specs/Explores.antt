@@ -15,14 +15,17 @@ use Rattle.explore_report.specs.declared.wanted.Wanted.{Wanted}
 use Rattle.explore_report.specs.declared.wanted.Wanted.TheVariants as wanted
 use Rattle.model_jobs.specs.Texts.{ended}
 use Rattle.text_devices.specs.declared.faults.ReplayError.{ReplayError}
-use Rattle.text_devices.specs.declared.faults.ReplayError.TheVariants.{Read}
+use Rattle.text_devices.specs.Transfer.{HasNotReadAll}
 use Rattle.run_program.specs.Runs.{EndsBy, HasFailed, HasTold, IsDone, IsStoppedFor, MovesBy, Moves, error_text}
+use Rattle.run_program.specs.Conditions.{AreSpelt, unspelt}
 use Rattle.run_program.specs.Seen.{Seen}
 use Rattle.run_program.specs.declared.criteria.Criteria.{Criteria}
 use Rattle.run_program.specs.Status.{status_of_error}
 use Rattle.run_program.specs.declared.verdict_error.VerdictError.{VerdictError}
-use Rattle.run_program.specs.declared.verdict_error.VerdictError.TheVariants.{Explore, NoList, NoPattern, Unmatched}
-use Rattle.explore_verdict.specs.Patterns.{pattern_of, Wanted as Pattern}
+use Rattle.run_program.specs.declared.verdict_error.VerdictError.TheVariants.{Explore, NoCondition, NoList, Unmatched}
+use Rattle.explore_verdict.specs.Conditions.{demand_word}
+use Rattle.explore_verdict.specs.declared.condition.Condition.{Condition}
+use Rattle.explore_verdict.specs.declared.condition.Demand.{Demand}
 use Rattle.explore_verdict.specs.ListFaults.{list_fault_in}
 use Rattle.explore_verdict.specs.Runs.{HasJudged, HasUnmatchable}
 use Rattle.explore_verdict.specs.declared.faults.VerdictFault.{VerdictFault}
@@ -93,26 +96,18 @@ pub record IsUnreadFor (input_failed errors_failed : Bool) (told told' : Option 
   pub failed : HasNotReadAll input_failed error
   pub line : HasTold errors_failed told told' (ended (error_text error))
 
--- the texts of the patterns that no outcome may match
-abbrev pub never_of : Criteria → List (List ℕ)
-never_of criteria = map (λ text. text.now) criteria.never.now
-
--- the texts spell these patterns, in this order
-abbrev pub AreSpelt : List (List ℕ) → List Pattern → Type 0
-AreSpelt texts patterns = map pattern_of texts ≡ map Some patterns
-
 -- the job was read, and the verdict on its outcomes was written: whether the outcomes meet the criteria
 abbrev pub HasJudgedBy : ExploreArgs → Criteria → Bool → Moves
 HasJudgedBy args criteria well left left' written written' =
-    (never : List Pattern) × AreSpelt (never_of criteria) never
+    (conditions : List Condition) × AreSpelt criteria conditions
     × (list_fault_in (option_copied criteria.expected) ≡ None)
-    × HasJudged (meshes_of args) args.cancel args.states (not args.allows_no_mesh) never (option_copied criteria.expected) left left' written written' well
+    × HasJudged (meshes_of args) args.cancel args.states (not args.allows_no_mesh) conditions (option_copied criteria.expected) left left' written written' well
 
 -- the error of a fault of the verdict
 abbrev pub error_of_fault : VerdictFault → VerdictError
 error_of_fault (fault.Explore error) = Explore error
 error_of_fault (fault.NoList fault) = NoList fault
-error_of_fault (fault.Unmatched pattern) = Unmatched pattern
+error_of_fault (fault.Unmatched condition) = Unmatched condition
 
 -- why no outcome can match a pattern
 abbrev why_text : Mismatch → List ℕ
@@ -120,9 +115,13 @@ why_text NoWorker = codes ": the job has no such worker"
 why_text NoAnswer = codes ": no command has such an answer"
 why_text TooManyAnswers = codes ": more answers than commands"
 
--- the line for a pattern that no outcome can match, without its end
+-- the option of a demand, with a space
+abbrev pub option_text : Demand → List ℕ
+option_text demand = codes "--" ++ demand_word demand ++ codes " "
+
+-- the line for a condition whose pattern no outcome can match, without its end
 abbrev pub unmatched_text : Unmatchable → List ℕ
-unmatched_text pattern = codes "--never " ++ decimal pattern.number ++ why_text pattern.mismatch
+unmatched_text condition = option_text condition.demand ++ decimal condition.number ++ why_text condition.mismatch
 
 -- the line for a text that is no list of outcomes, without its end
 abbrev pub list_text : ListFault → List ℕ
@@ -133,49 +132,34 @@ list_text ListNoOutcome = codes "--expect: no outcome is listed"
 -- an error's line, without its end
 abbrev pub verdict_text : ℕ → VerdictError → List ℕ
 verdict_text states (Explore error) = explore_text states error
-verdict_text states (Unmatched pattern) = unmatched_text pattern
+verdict_text states (Unmatched condition) = unmatched_text condition
 verdict_text states (NoList fault) = list_text fault
-verdict_text states (NoPattern number) = codes "--never " ++ decimal number ++ codes ": no pattern 'worker W: ANSWER | ..'"
+verdict_text states (NoCondition demand number) = option_text demand ++ decimal number ++ codes ": no condition 'W: ANSWER | ..'"
 
--- the status of an error that prevents a verdict: 2 for a pattern or a list that can't be judged, otherwise the status
+-- the status of an error that prevents a verdict: 2 for a condition or a list that can't be judged, otherwise the status
 -- of the exploration's error
 abbrev pub verdict_status : VerdictError → ℕ
 verdict_status (Explore error) = explore_status error
-verdict_status (NoPattern number) = 2
-verdict_status (Unmatched pattern) = 2
+verdict_status (NoCondition demand number) = 2
+verdict_status (Unmatched condition) = 2
 verdict_status (NoList fault) = 2
 
 -- the device that the error names, if any, has failed
 abbrev pub HasFailedVerdict : Bool → Bool → VerdictError → Type 0
 HasFailedVerdict input output (Explore error) = HasFailedExplore input output error
-HasFailedVerdict input output (NoPattern number) = Unit {0}
-HasFailedVerdict input output (Unmatched pattern) = Unit {0}
+HasFailedVerdict input output (NoCondition demand number) = Unit {0}
+HasFailedVerdict input output (Unmatched condition) = Unit {0}
 HasFailedVerdict input output (NoList fault) = Unit {0}
-
--- the text of this number, counted from 1, spells no pattern
-pub record SpellsNone (texts : List (List ℕ)) (number : ℕ) : Type 0 where
-  pub place : ℕ
-  pub text : List ℕ
-  pub counted : number ≡ place + 1
-  pub there : slice_get texts place ≡ Some text
-  pub none : pattern_of text ≡ None
-
--- why texts aren't all patterns: an allocation failed, or one text spells no pattern
-abbrev pub IsUnread : List (List ℕ) → VerdictError → Type 0
-IsUnread texts (Explore error) = error ≡ refused
-IsUnread texts (NoPattern number) = SpellsNone texts number
-IsUnread texts (Unmatched pattern) = ⊥
-IsUnread texts (NoList fault) = ⊥
 
 -- what was read before an exploration stopped for this error without a verdict
 abbrev pub HasStoppedVerdict : ExploreArgs → Criteria → MovesBy VerdictError
 HasStoppedVerdict args criteria left left' written written' (Explore error) =
     HasStoppedExplore (meshes_of args) args.cancel args.states left left' written written' error
-HasStoppedVerdict args criteria left left' written written' (NoPattern number) = SpellsNone (never_of criteria) number
+HasStoppedVerdict args criteria left left' written written' (NoCondition demand number) = unspelt criteria ≡ Some (demand, number)
 HasStoppedVerdict args criteria left left' written written' (NoList fault) = list_fault_in (option_copied criteria.expected) ≡ Some fault
-HasStoppedVerdict args criteria left left' written written' (Unmatched pattern) =
-    (job : Job) × (never : List Pattern) × HasReadJob left left' job × AreSpelt (never_of criteria) never
-    × HasUnmatchable (meshes_of args) args.cancel never job pattern
+HasStoppedVerdict args criteria left left' written written' (Unmatched condition) =
+    (job : Job) × (conditions : List Condition) × HasReadJob left left' job × AreSpelt criteria conditions
+    × HasUnmatchable (meshes_of args) args.cancel conditions job condition
 
 -- a verdict was written, no device failed, and no message was printed
 abbrev pub IsJudged : ExploreArgs → Criteria → Bool → Seen → Seen → Type 0

@@ -1,4 +1,5 @@
 pub mod Checks
+pub mod Conditions
 pub mod Draws
 pub mod Explores
 pub mod LiveSizes

@@ -29,7 +29,7 @@ use text_devices::{Sink, Source};
 /// - 2 with the line `line N: KIND` if the job's text has a fault;
 /// - 2 with `no such outcome` or `no such answer in that phase` if the outcome or the answer that was asked for doesn't
 ///   exist;
-/// - 2 with `--never K: no pattern 'worker W: ANSWER | ..'`.
+/// - 2 with a line that says which option asks for a verdict that can't be given, and why.
 ///
 /// After an error nothing is written to the output, unless the output itself failed. If the line can't be written, the
 /// status is the same.
@@ -41,7 +41,9 @@ pub fn explore_run<I: Source, O: Sink, E: Sink, W: Watch>(
     watch: &mut W,
 ) -> u8
     requires sound { IsSound devices.old }
-    requires few { length criteria.now.never.now ≤ 10 }
+    requires never { length criteria.now.never.now ≤ 10 }
+    requires always { length criteria.now.always.now ≤ 10 }
+    requires exists { length criteria.now.exists.now ≤ 10 }
     ensures { EndsExplore args.now criteria.now devices.old devices.new result }
 {
     match args.told {

@@ -9,6 +9,7 @@
 
 mod check;
 mod check_error;
+mod conditions;
 mod criteria;
 mod devices;
 mod draw;
@@ -39,8 +40,8 @@ pub use live::live_run;
 pub use order::order_run;
 pub use progress::Progress;
 pub use run_command_line::{
-    Args, CheckArgs, DrawArgs, ExploreArgs, LiveArgs, MeshPair, Meshes, Patterns, SavingsArgs,
-    ShownArgs, Stop, ThreadsArgs, Told, arguments, patterns, unread_words,
+    Args, CheckArgs, Conditions, DrawArgs, ExploreArgs, LiveArgs, MeshPair, Meshes, Request,
+    SavingsArgs, ShownArgs, Stop, Texts, ThreadsArgs, Told, arguments, request, unread_words,
 };
 pub use runs::{replay_history_run, replay_run, stop_run, unopened_run};
 pub use savings::savings_run;

@@ -128,7 +128,6 @@ fn order_in(alloc: Global, text: &[u8], most: u32) -> Result<Option<Vec<u8>>, Ch
     match ordered_history(alloc, text, most as usize) {
         Ok(found) => Ok(found),
         Err(OrderFault::Undecided) => Ok(None),
-        Err(OrderFault::Read) => Err(CheckError::Replay(ReplayError::Read)),
         Err(OrderFault::Memory) => Err(CheckError::Replay(ReplayError::Memory)),
     }
 }

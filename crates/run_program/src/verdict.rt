@@ -1,19 +1,20 @@
 //! The program's verdict on the outcomes of an exploration.
-ghost use Rattle.std.specs.Prelude.{◌≡◌, ◌≤◌, ◌++◌, ◌∷◌, [], Some, false, true, IfErr, IfOk, OnOk, length, map};
+ghost use Rattle.std.specs.Prelude.{◌≡◌, ◌≤◌, false, true, IfErr, IfOk, OnOk, length};
 ghost use Rattle.model_jobs.specs.Texts.{ended};
 ghost use Rattle.text_devices.specs.declared.faults.ReplayError.{ReplayError};
-ghost use Rattle.run_program.specs.Explores.{AreSpelt, EndsVerdict, HasFailedVerdict, HasJudgedBy, HasStoppedVerdict, IsUnread, IsUnreadFor, list_text, unmatched_text, verdict_status, verdict_text};
+ghost use Rattle.run_program.specs.Explores.{EndsVerdict, HasFailedVerdict, HasJudgedBy, HasStoppedVerdict, IsUnreadFor, list_text, option_text, unmatched_text, verdict_status, verdict_text};
 ghost use Rattle.run_program.specs.Runs.{HasTold, IsSound};
 ghost use Rattle.text_devices.specs.Transfer.{HasReadAll};
 
+use crate::conditions::conditions_of;
 use crate::explore::{explore_line_of, explore_status_of};
 use crate::fault_line::{Line, line_with, number_line, place_line};
 use crate::runs::{status_of, tell, tell_error};
 use crate::{Criteria, Devices, ExploreArgs, VerdictError};
-use explore_verdict::{ListFault, Mismatch, Pattern, Unmatchable, VerdictOptions, verdict};
+use explore_verdict::{Demand, ListFault, Mismatch, Unmatchable, VerdictOptions, verdict};
 use run_command_line::status::{DONE, FAULTY, NEGATIVE};
 use states_reach::Watch;
-use std::alloc::{AllocError, Global};
+use std::alloc::Global;
 use text_devices::{Sink, Source, read_all};
 
 /// Reads the text of the expected outcomes. If reading fails, writes the reason to `errors`. The error is then the exit
@@ -46,7 +47,9 @@ pub(crate) fn verdict_run<I: Source, O: Sink, E: Sink, W: Watch>(
     watch: &mut W,
 ) -> u8
     requires sound { IsSound devices.old }
-    requires few { length criteria.now.never.now ≤ 10 }
+    requires never { length criteria.now.never.now ≤ 10 }
+    requires always { length criteria.now.always.now ≤ 10 }
+    requires exists { length criteria.now.exists.now ≤ 10 }
     ensures { EndsVerdict args.now criteria.now devices.old devices.new result }
 {
     match write_verdict(
@@ -80,7 +83,9 @@ fn write_verdict<I: Source, O: Sink, W: Watch>(
 ) -> Result<bool, VerdictError>
     requires input { I.has_failed input.old ≡ false }
     requires output { O.has_failed output.old ≡ false }
-    requires few { length criteria.now.never.now ≤ 10 }
+    requires never { length criteria.now.never.now ≤ 10 }
+    requires always { length criteria.now.always.now ≤ 10 }
+    requires exists { length criteria.now.exists.now ≤ 10 }
     ensures ok { OnOk result ((I.has_failed input.new ≡ false) × (O.has_failed output.new ≡ false)) }
     ensures judged { IfOk result (λ well. HasJudgedBy args.now criteria.now well
         (I.remaining input.old) (I.remaining input.new) (O.written output.old) (O.written output.new)) }
@@ -88,41 +93,16 @@ fn write_verdict<I: Source, O: Sink, W: Watch>(
         (I.remaining input.old) (I.remaining input.new) (O.written output.old) (O.written output.new)) }
     ensures failed { IfErr result (HasFailedVerdict (I.has_failed input.new) (O.has_failed output.new)) }
 {
-    let never = patterns(alloc, criteria.never)?;
+    let conditions = conditions_of(alloc, criteria)?;
     let options = VerdictOptions {
         meshes: args.meshes.as_slice(),
         cancel: args.cancel,
         states: args.states,
         must_begin: !args.allows_no_mesh,
-        never: never.as_slice(),
+        conditions: conditions.as_slice(),
     };
     let well = verdict(alloc, input, criteria.expected, output, &options, watch)?;
     Ok(well)
-}
-
-/// Parses these texts as patterns. The error is NoPattern for the first text that is no pattern, and Memory if an
-/// allocation failed.
-fn patterns(alloc: Global, texts: &[&str]) -> Result<Vec<Pattern>, VerdictError>
-    requires { length texts.now ≤ 10 }
-    ensures patterns { IfOk result (λ patterns. AreSpelt (map (λ text. text.now) texts.now) patterns.items) }
-    ensures unread { IfErr result (IsUnread (map (λ text. text.now) texts.now)) }
-{
-    let mut patterns = Vec::new(alloc);
-    for place in 0..texts.len() {
-        let Some(pattern) = Pattern::spelt(alloc, texts[place].as_bytes())? else {
-            return Err(VerdictError::NoPattern(place as u32 + 1));
-        };
-        add(&mut patterns, pattern)?;
-    }
-    Ok(patterns)
-}
-
-/// Adds a pattern.
-fn add(patterns: &mut Vec<Pattern>, pattern: Pattern) -> Result<(), AllocError>
-    ensures { OnOk result (patterns.new.items ≡ patterns.old.items ++ pattern ∷ []) }
-{
-    patterns.push(pattern)?;
-    Ok(())
 }
 
 /// The line of an error, with a line end.
@@ -131,26 +111,38 @@ fn verdict_line_of(error: VerdictError, states: u32) -> Line
 {
     match error {
         VerdictError::Explore(error) => explore_line_of(error, states),
-        VerdictError::NoPattern(number) => number_line(
-            b"--never ",
+        VerdictError::NoCondition(demand, number) => number_line(
+            option_of(demand),
             number,
-            b": no pattern 'worker W: ANSWER | ..'",
+            b": no condition 'W: ANSWER | ..'",
         ),
-        VerdictError::Unmatched(pattern) => unmatched_line(pattern),
+        VerdictError::Unmatched(condition) => unmatched_line(condition),
         VerdictError::NoList(fault) => list_line(fault),
     }
 }
 
-/// The line, with a line end, for a pattern that no outcome can match.
-fn unmatched_line(pattern: Unmatchable) -> Line
-    ensures { result.items ≡ ended (unmatched_text pattern) }
+/// The option of a demand, with a space.
+fn option_of(demand: Demand) -> &'static [u8]
+    ensures option { result.now ≡ option_text demand }
+    ensures short { length result.now ≤ 9 }
 {
-    let why: &[u8] = match pattern.mismatch {
+    match demand {
+        Demand::Never => b"--never ",
+        Demand::Always => b"--always ",
+        Demand::Exists => b"--exists ",
+    }
+}
+
+/// The line, with a line end, for a condition whose pattern no outcome can match.
+fn unmatched_line(condition: Unmatchable) -> Line
+    ensures { result.items ≡ ended (unmatched_text condition) }
+{
+    let why: &[u8] = match condition.mismatch {
         Mismatch::NoWorker => b": the job has no such worker",
         Mismatch::NoAnswer => b": no command has such an answer",
         Mismatch::TooManyAnswers => b": more answers than commands",
     };
-    place_line(b"--never ", pattern.number, why)
+    number_line(option_of(condition.demand), condition.number, why)
 }
 
 /// The line, with a line end, for a text that is no list of outcomes.
@@ -174,6 +166,6 @@ fn verdict_status_of(error: VerdictError) -> u8
 {
     match error {
         VerdictError::Explore(error) => explore_status_of(error),
-        VerdictError::NoPattern(_) | VerdictError::Unmatched(_) | VerdictError::NoList(_) => FAULTY,
+        VerdictError::NoCondition(_, _) | VerdictError::Unmatched(_) | VerdictError::NoList(_) => FAULTY,
     }
 }

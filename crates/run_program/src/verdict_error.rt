@@ -5,15 +5,15 @@ ghost use Rattle.run_program.specs.declared.verdict_error.VerdictError.TheVarian
 ghost use Rattle.std.specs.Prelude.{◌≡◌};
 
 use explore_report::ExploreError;
-use explore_verdict::{ListFault, Unmatchable, VerdictFault};
+use explore_verdict::{Demand, ListFault, Unmatchable, VerdictFault};
 use std::alloc::AllocError;
 
 /// The reason why a verdict isn't given.
 #[derive(Clone, Copy, Debug, PartialEq, Eq)]
 pub enum VerdictError {
-    /// The text of the `--never` with this number, counted from 1, is no pattern.
-    NoPattern(u32),
-    /// No outcome of the job can match the pattern of a `--never`.
+    /// The text with this number, counted from 1 among those of this demand, spells no condition.
+    NoCondition(Demand, u32),
+    /// No outcome of the job can match the pattern of a condition.
     Unmatched(Unmatchable),
     /// The text of `--expect` is no list of outcomes.
     NoList(ListFault),
@@ -28,7 +28,7 @@ impl From<VerdictFault> for VerdictError {
         match fault {
             VerdictFault::Explore(error) => VerdictError::Explore(error),
             VerdictFault::NoList(fault) => VerdictError::NoList(fault),
-            VerdictFault::Unmatched(pattern) => VerdictError::Unmatched(pattern),
+            VerdictFault::Unmatched(condition) => VerdictError::Unmatched(condition),
         }
     }
 }
