@@ -34,8 +34,15 @@ def outcomes_in(listing):
         rows = f"outcome {block}".splitlines()
         answers = [row for row in rows if row.startswith("  worker ")]
         plans = [row.removeprefix("  plan: ") for row in rows if row.startswith("  plan: ")]
-        found.append(Outcome(rows, answers, [step for plan in plans for step in plan.split(", ")]))
+        found.append(Outcome(rows, answers, [step for plan in plans for step in steps_of(plan)]))
     return found
+
+
+def steps_of(plan):
+    """The lines of a plan as a job file has them: `LINE times N` in a listing is N lines."""
+    for row in plan.split(", "):
+        step, _, times = row.partition(" times ")
+        yield from [step] * int(times or 1)
 
 
 def cases(suite):
