@@ -1,6 +1,7 @@
 """The explorations of jobs/explore, each with its options (.args) and with another engine's listing (.out).
 
-The other engine also tells of meshes that begin in no interleaving (.unbegun).
+The other engine also tells of meshes that begin in no interleaving (.unbegun), and gives the verdicts of
+jobs/explore/verdicts.
 """
 
 import pathlib
@@ -9,9 +10,10 @@ import sys
 import typing
 
 from cli import golden
-from cli.suite import NOTHING, execute, line, lines
+from cli.suite import NOTHING, Beginning, execute, line, lines
 
 JOBS = pathlib.Path("jobs/explore")
+VERDICTS = JOBS / "verdicts"
 # Of this job's many outcomes only the last is tried.
 LONG_LISTING = "three_pages"
 
@@ -54,6 +56,7 @@ def cases(suite):
             suite.check(name, 2, NOTHING, expected, "explore", job, "--mesh", "1:0")
     answers_shown(suite)
     verdicts(suite)
+    golden_verdicts(suite)
     progress(suite)
     closed_input(suite)
     tables = execute([sys.executable, "tools/test/interleavings.py", suite.program])
@@ -143,6 +146,16 @@ def verdicts(suite):
     patterns = "--never", "worker 1: byte 00", "--never", "worker 0: * | bytes aa"
     both = reported("unexpected:", 1) + reported("never 2: 2 of 2 outcomes", 0)
     check("both at once", 3, both, "--expect", listed, *patterns)
+
+
+def golden_verdicts(suite):
+    """The verdicts of the other engine: each with its words (.args), status and output, and the line of its fault."""
+    for words in sorted(VERDICTS.glob("*.args")):
+        status = int(words.with_suffix(".status").read_text())
+        fault = words.with_suffix(".err")
+        errors = Beginning(fault.read_bytes()) if fault.exists() else NOTHING
+        name = f"explore: {words.with_suffix('')}"
+        suite.check(name, status, words.with_suffix(".out"), errors, "explore", *words.read_text().splitlines())
 
 
 def progress(suite):
