@@ -1,7 +1,9 @@
+pub mod EndTexts
 pub mod Ends
 pub mod Errors
 pub mod Explorations
 pub mod FoundOutcomes
+pub mod JobLines
 pub mod Listings
 pub mod Paths
 pub mod Phases

@@ -1,9 +1,9 @@
 //! The text of the phases of a mesh, with consecutive phases as ranges.
 use crate::LastStep;
-use mesh_running::{KINDS, kind_name, place_of};
+use crate::phase_text::add_phase;
+use mesh_running::place_of;
 use std::alloc::AllocError;
-use std::collections::BTreeSet;
-use text_words::add_decimal;
+use std::collections::BTreeMap;
 
 /// The rank of a phase: phases are ordered as they follow each other in a mesh. Phases after steps have the order of
 /// `KINDS`. The phases of a cancelled mesh come after `Over`.
@@ -25,8 +25,11 @@ pub(crate) enum PhasePlace {
     Refused,
 }
 
+/// Phases by their ranks.
+pub(crate) type Phases = BTreeMap<PhasePlace, LastStep>;
+
 /// The first and the last phase of a range.
-type PhaseRange = (PhasePlace, PhasePlace);
+type PhaseRange = (LastStep, LastStep);
 
 /// Returns the rank of a phase.
 pub(crate) fn phase_place(phase: LastStep) -> PhasePlace {
@@ -45,13 +48,13 @@ pub(crate) fn phase_place(phase: LastStep) -> PhasePlace {
 /// other in `known` are written as one range.
 pub(crate) fn add_ranges(
     text: &mut Vec<u8>,
-    known: &BTreeSet<PhasePlace>,
-    phases: &BTreeSet<PhasePlace>,
+    known: &Phases,
+    phases: &Phases,
 ) -> Result<(), AllocError> {
     let mut range: Option<PhaseRange> = None;
     let mut is_later = false;
-    for phase in known {
-        let is_told = phases.contains(phase);
+    for (place, phase) in known {
+        let is_told = phases.contains_key(place);
         if let Some((first, last)) = range {
             if is_told && goes_on(last, *phase) {
                 range = Some((first, *phase));
@@ -75,12 +78,11 @@ pub(crate) fn add_ranges(
 /// Whether a range that ends with the phase `earlier` can continue with `phase`, the next phase by rank. Any phase up
 /// to `Over` can continue a range. `Cancelled` can continue only a range that ends with `Cancelled`. `Unwound` and
 /// `Refused` can't continue a range.
-fn goes_on(earlier: PhasePlace, phase: PhasePlace) -> bool {
+fn goes_on(earlier: LastStep, phase: LastStep) -> bool {
     match phase {
-        PhasePlace::Before | PhasePlace::Begun | PhasePlace::Stepped(_, _) | PhasePlace::Over =>
-            true,
-        PhasePlace::Cancelled(_) => matches!(earlier, PhasePlace::Cancelled(_)),
-        PhasePlace::Unwound | PhasePlace::Refused => false,
+        LastStep::Before | LastStep::Begun | LastStep::Stepped(_, _) | LastStep::Over => true,
+        LastStep::Cancelled(_) => matches!(earlier, LastStep::Cancelled(_)),
+        LastStep::Unwound | LastStep::Refused => false,
     }
 }
 
@@ -96,34 +98,4 @@ fn add_range(text: &mut Vec<u8>, range: PhaseRange, is_later: bool) -> Result<()
         add_phase(text, last)?;
     }
     Ok(())
-}
-
-/// Adds the name of a phase.
-pub(crate) fn add_phase(text: &mut Vec<u8>, phase: PhasePlace) -> Result<(), AllocError> {
-    match phase {
-        PhasePlace::Before => text.extend_from_slice(b"before"),
-        PhasePlace::Begun => text.extend_from_slice(b"begun"),
-        PhasePlace::Stepped(place, made) => add_step(text, place, made),
-        PhasePlace::Over => text.extend_from_slice(b"over"),
-        PhasePlace::Cancelled(0) => text.extend_from_slice(b"cancelled"),
-        PhasePlace::Cancelled(made) => add_made(text, "unwound", made),
-        PhasePlace::Unwound => text.extend_from_slice(b"unwound"),
-        PhasePlace::Refused => text.extend_from_slice(b"refused"),
-    }
-}
-
-/// Adds the name of the phase after `made` steps of the kind at `place` of `KINDS`. Adds nothing if `KINDS` has no such
-/// place.
-fn add_step(text: &mut Vec<u8>, place: usize, made: u32) -> Result<(), AllocError> {
-    match KINDS.get(place) {
-        Some(kind) => add_made(text, kind_name(*kind), made),
-        None => Ok(()),
-    }
-}
-
-/// Adds a name, a space and the number `made`.
-fn add_made(text: &mut Vec<u8>, name: &str, made: u32) -> Result<(), AllocError> {
-    text.extend_from_slice(name.as_bytes())?;
-    text.push(b' ')?;
-    add_decimal(text, u64::from(made))
 }
