@@ -5,9 +5,11 @@ pub mod Endings
 pub mod FoundOutcomes
 pub mod Kept
 pub mod NotedAnswers
+pub mod OutcomeTexts
 pub mod Paths
 pub mod Phases
 pub mod ShownAnswers
+pub mod Sorting
 pub mod ToldTexts
 pub mod WholeListings
 pub mod Witnesses

@@ -5,7 +5,9 @@ pub mod Explorations
 pub mod FoundOutcomes
 pub mod JobLines
 pub mod Listings
+pub mod OutcomeTexts
 pub mod Paths
 pub mod Phases
 pub mod Shown
+pub mod Sorting
 pub mod ToldTexts

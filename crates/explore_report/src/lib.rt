@@ -7,7 +7,7 @@
 //! - for each command its answers, and for each answer the phases of the meshes in which the command gets it
 //!   (`answer_text`, `ranges`);
 //! - the outcomes, each with the answers of all workers (`told_text`), a plan that leads to the outcome
-//!   (`outcome_text`), and the state after this plan (`end_text`, `phase_text`).
+//!   (`outcome_text`, `plan_text`), and the state after this plan (`end_text`, `phase_text`).
 //!
 //! `lines` finds the plan lines that lead to a state. If the lines that lead to the state of an outcome are added to
 //! the plan of the job, the job file leads to the outcome. If the lines that lead to some state are added, and then the
@@ -29,10 +29,12 @@ mod outcome_text;
 mod outcomes;
 mod phase;
 mod phase_text;
+mod plan_text;
 mod ranges;
 mod run;
 mod settings;
 mod shown;
+mod sorted;
 mod told_text;
 mod wanted;
 
