@@ -1,5 +1,6 @@
 pub mod Attempts
 pub mod Combinations
+pub mod CommandTexts
 pub mod EndTexts
 pub mod Endings
 pub mod FoundOutcomes

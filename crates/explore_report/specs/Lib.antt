@@ -1,3 +1,4 @@
+pub mod CommandTexts
 pub mod EndTexts
 pub mod Ends
 pub mod Errors
@@ -7,6 +8,7 @@ pub mod JobLines
 pub mod Listings
 pub mod OutcomeTexts
 pub mod Paths
+pub mod PhaseRanges
 pub mod Phases
 pub mod Shown
 pub mod Sorting

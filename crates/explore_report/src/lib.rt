@@ -38,6 +38,7 @@ mod sorted;
 mod told_text;
 mod wanted;
 
+pub use answer_text::commands_text;
 pub use end_text::add_end;
 pub use errors::ExploreError;
 pub use listing::{Exploration, Listing, explored_and_listed, listed};

@@ -25,10 +25,10 @@ pub(crate) fn put<K: Ord + Drop, V: Drop>(
 }
 
 /// Returns the values, sorted by their keys.
-pub(crate) fn values_of<K: Ord>(
+pub(crate) fn values_of<K: Ord, V: Copy + Drop>(
     alloc: Global,
-    sorted: &Sorted<K, usize>,
-) -> Result<Vec<usize>, AllocError>
+    sorted: &Sorted<K, V>,
+) -> Result<Vec<V>, AllocError>
     ensures { IfOk result (λ values. values.items ≡ entry_values sorted.now.entries) }
 {
     let mut values = Vec::new(alloc);

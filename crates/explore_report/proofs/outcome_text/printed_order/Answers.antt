@@ -1,5 +1,6 @@
-use Rattle.std.proofs.Common.{◌≡◌, ◌∙◌, ◌≤◌, Result, Ok, Err, IfOk, List, ℕ, ap, get_or, length, sym}
+use Rattle.std.proofs.Common.{◌≡◌, ◌∙◌, ◌≤◌, ap, get_or, length, sym}
 use Rattle.std.proofs.lemmas.Option.{slice_get-get_or}
+use Rattle.std.proofs.lemmas.Result.{IfOk-weaker}
 use Rattle.explore_report.specs.OutcomeTexts.{outcome_entries, outcome_order, printed_order}
 use Rattle.explore_report.specs.Sorting.{entry_values, sort_entries, unnumbered}
 use Rattle.explore_report.specs.declared.outcomes.Outcome.{Outcome}
@@ -21,11 +22,6 @@ loop-at-preserved c =
           c.in_ok-key.ensures.text c.in_ok-put.ensures.entries);
     }
 
--- what holds of a result that is Ok follows from what else does
-map_ok : {A E : Type 0} (P Q : A → Type 0) (result : Result A E) → ((a : A) → P a → Q a) → IfOk result P → IfOk result Q
-map_ok P Q (Ok a) follows holds = follows a holds
-map_ok P Q (Err e) follows holds = holds
-
 pub returns : goal.returns
 returns c =
     let entries = c.loop-at.sorted.entries in
@@ -35,4 +31,4 @@ returns c =
     put_all states found c.loop-at.at (with_keys plain_key (unnumbered entries)) _ c.loop-at-test.false c.loop-at.invariant.entries in
     let values : entry_values entries ≡ printed_order states found =
     sym (numbered_values entries) ∙ (sym (with_values plain_key (unnumbered entries)) ∙ ap entry_values all) in
-    map_ok _ _ c.values_of.result (λ order is. is ∙ values) c.values_of.ensures
+    IfOk-weaker c.values_of.result _ _ (λ order is. is ∙ values) c.values_of.ensures
