@@ -19,10 +19,10 @@ ghost use Rattle.meshrun.specs.Paths.{file_at, file_of};
 ghost use Rattle.run_program.specs.Runs.{IsSound};
 
 use run_program::{
-    Args, Begun, Criteria, Devices, ExploreArgs, Input, Output, Patterns, Progress, Sink, Source,
-    Told, arguments, check_run, draw_run, expected_run, explore_run, live_run, order_run, patterns,
-    replay_history_run, replay_run, savings_run, stop_run, threads_history_run, threads_run,
-    unopened_run, unread_words,
+    Args, Begun, Conditions, Criteria, Devices, ExploreArgs, Input, Output, Progress, Request, Sink,
+    Source, Told, check_run, draw_run, expected_run, explore_run, live_run, order_run,
+    replay_history_run, replay_run, request, savings_run, stop_run, threads_history_run,
+    threads_run, unopened_run, unread_words,
 };
 use std::fs::File;
 use std::io::IsTerminal;
@@ -38,8 +38,8 @@ fn main(rt: HostRuntime) -> ExitCode {
     let mut output = Output::new(rt.stdout());
     let mut errors = Output::new(rt.stderr());
     let status = match words(&rt) {
-        Ok(words) => match arguments(rt.alloc(), words.as_slice()) {
-            Ok(args) => run(&rt, &rt, &args, words.as_slice(), output, errors),
+        Ok(words) => match request(rt.alloc(), words.as_slice()) {
+            Ok(request) => run(&rt, &rt, &request, output, errors),
             Err(stop) => stop_run(&stop, &mut output, &mut errors),
         },
         Err(error) => stop_run(&unread_words(&error), &mut output, &mut errors),
@@ -47,23 +47,22 @@ fn main(rt: HostRuntime) -> ExitCode {
     ExitCode::from(status)
 }
 
-/// Runs the command that the arguments ask for, and returns the exit status. The arguments are those of these words.
+/// Runs the command of a request, and returns the exit status.
 fn run<R: Threads + Wait + Sync, O: Sink + Drop, E: Sink + Drop>(
     rt: &HostRuntime,
     threads: &R,
-    args: &Args<'_>,
-    words: &[String],
+    request: &Request<'_>,
     output: O,
     mut errors: E,
 ) -> u8
     requires { O.has_failed output ≡ false }
 {
-    let Some(path) = path_of(args) else {
+    let Some(path) = path_of(&request.args) else {
         let input = Input::new(rt.stdin());
-        return run_on(rt, threads, args, words, input, output, errors);
+        return run_on(rt, threads, request, input, output, errors);
     };
     match File::open(rt, path) {
-        Ok(file) => run_on(rt, threads, args, words, Input::new(file), output, errors),
+        Ok(file) => run_on(rt, threads, request, Input::new(file), output, errors),
         Err(_) => unopened_run(&mut errors),
     }
 }
@@ -101,8 +100,7 @@ fn file_at(path: &str) -> Option<&str>
 fn run_on<R: Threads + Wait + Sync, I: Source + Drop, O: Sink + Drop, E: Sink + Drop>(
     rt: &HostRuntime,
     threads: &R,
-    args: &Args<'_>,
-    words: &[String],
+    request: &Request<'_>,
     mut input: I,
     mut output: O,
     mut errors: E,
@@ -111,7 +109,7 @@ fn run_on<R: Threads + Wait + Sync, I: Source + Drop, O: Sink + Drop, E: Sink + 
     requires output { O.has_failed output ≡ false }
 {
     let alloc = rt.alloc();
-    match args {
+    match &request.args {
         Args::Replay(_) => replay_run(alloc, &mut input, &mut output, &mut errors),
         Args::ReplayHistory(_) => {
             replay_history_run(alloc, &mut Devices::new(input, output, errors))
@@ -126,10 +124,10 @@ fn run_on<R: Threads + Wait + Sync, I: Source + Drop, O: Sink + Drop, E: Sink + 
         Args::Draw(path, args) => {
             draw_run(alloc, path, args, &mut Devices::new(input, output, errors))
         }
-        Args::Explore(_, args) => match patterns(alloc, words) {
-            Ok(never) => explore(rt, args, &never, &mut Devices::new(input, output, errors)),
-            Err(stop) => stop_run(&stop, &mut output, &mut errors),
-        },
+        Args::Explore(_, args) => {
+            let mut devices = Devices::new(input, output, errors);
+            explore(rt, args, &request.conditions, &mut devices)
+        }
         Args::Live(args) => live_run(alloc, args, &mut Devices::new(input, output, errors)),
         Args::Check(_, args) if args.is_ordered => {
             let mut devices = Devices::new(input, output, errors);
@@ -150,7 +148,7 @@ fn run_on<R: Threads + Wait + Sync, I: Source + Drop, O: Sink + Drop, E: Sink + 
 fn explore<I: Source, O: Sink, E: Sink>(
     rt: &HostRuntime,
     args: &ExploreArgs<'_>,
-    never: &Patterns<'_>,
+    conditions: &Conditions<'_>,
     devices: &mut Devices<I, O, E>,
 ) -> u8
     requires { IsSound devices.old }
@@ -160,22 +158,15 @@ fn explore<I: Source, O: Sink, E: Sink>(
     let mut watch = Progress::new(rt, Output::new(stderr), is_watched);
     match expected(rt, args) {
         Ok(Some(text)) => {
-            let criteria = criteria(Some(text.as_slice()), never.as_slice());
+            let criteria = Criteria::new(Some(text.as_slice()), conditions);
             explore_run(rt.alloc(), args, &criteria, devices, &mut watch)
         }
         Ok(None) => {
-            let criteria = criteria(None, never.as_slice());
+            let criteria = Criteria::new(None, conditions);
             explore_run(rt.alloc(), args, &criteria, devices, &mut watch)
         }
         Err(status) => status,
     }
-}
-
-/// The criteria of a verdict.
-fn criteria<'a>(expected: Option<&'a [u8]>, never: &'a [&'a str]) -> Criteria<'a>
-    ensures { result.never.now ≡ never.now }
-{
-    Criteria { expected, never }
 }
 
 /// Returns the text of the expected outcomes, or `None` if the arguments name no such text. If the text can't be read,

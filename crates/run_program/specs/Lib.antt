@@ -1,5 +1,6 @@
 pub mod Checks
 pub mod Conditions
+pub mod Criteria
 pub mod Draws
 pub mod Explores
 pub mod LiveSizes

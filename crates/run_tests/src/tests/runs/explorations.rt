@@ -5,7 +5,7 @@ ghost use Rattle.std.specs.Prelude.{◌≡◌, false};
 
 use crate::memory::{Ran, SlowSource, in_memory};
 use crate::tests::check;
-use run_program::{Args, Criteria, Input, Source, Unwatched, arguments, explore_run, patterns};
+use run_program::{Args, Criteria, Input, Source, Unwatched, explore_run, request};
 use std::process::Abort;
 
 /// The job file of a small exploration, which has 64 states and two outcomes.
@@ -22,7 +22,7 @@ const LISTED: &str =
 
 /// The verdict on the small exploration if its second outcome is forbidden.
 const FORBIDDEN: &str =
-    "never 1: 1 of 2 outcomes\noutcome 1 of 44 interleavings\n  worker 0: done | bytes aa\n  worker 1: bytes 00\n  end: mesh 1:0 over\n  plan: run 1, run 0, run 0, begin 1 0, step, step, step, step, step, step\n";
+    "never 1: 1 of 2 outcomes\noutcome 1 of 44 interleavings\n  worker 0: done | bytes aa\n  worker 1: bytes 00\n  end: mesh 1:0 over\n  plan: run 1, run 0, run 0, begin 1 0, step times 6\n";
 
 /// Runs the small exploration with a mesh of the groups 1 and 0. `line` is the command line, with a `/` between two
 /// words.
@@ -30,17 +30,14 @@ fn explored<I: Source + Drop>(rt: &(impl Abort + AllocGlobal), line: &str, input
     requires { I.has_failed input ≡ false }
 {
     let words: Vec<&str> = line.split('/').collect(rt.alloc()).expect(rt, "memory");
-    let Ok(Args::Explore(_, args)) = arguments(rt.alloc(), words.as_slice()) else {
-        panic!(rt; "words that ask for no exploration");
-    };
-    let Ok(never) = patterns(rt.alloc(), words.as_slice()) else {
+    let Ok(request) = request(rt.alloc(), words.as_slice()) else {
         panic!(rt; "words that are refused");
     };
-    let mut devices = in_memory(rt.alloc(), input);
-    let criteria = Criteria {
-        expected: Some(LISTED.as_bytes()),
-        never: never.as_slice(),
+    let Args::Explore(_, args) = request.args else {
+        panic!(rt; "words that ask for no exploration");
     };
+    let mut devices = in_memory(rt.alloc(), input);
+    let criteria = Criteria::new(Some(LISTED.as_bytes()), &request.conditions);
     let status = explore_run(rt.alloc(), &args, &criteria, &mut devices, &mut Unwatched);
     Ran::of(status, devices)
 }
