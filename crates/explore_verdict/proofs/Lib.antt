@@ -1,9 +1,7 @@
 pub mod BegunMeshes
 pub mod Blocks
 pub mod Colons
-pub mod ConditionLines
+pub mod PiecesMore
 pub mod Runs
-pub mod Sets
-pub mod Texts
-pub mod Verdicts
+pub mod TextSets
 pub mod WrittenLines

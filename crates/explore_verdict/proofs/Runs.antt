@@ -1,37 +1,41 @@
--- The verdict of a run.
-use Rattle.std.proofs.Common.{◌≡◌, ◌↔◌, ◌∙◌, ◌++◌, ℕ, Bool, true, false, ◌&&◌, List, Option, append_assoc, refl, sym}
-use Rattle.explore_interleavings.specs.ExploreStates.{ExploreState, Setting}
-use Rattle.explore_report.specs.Listings.{ListsAll}
-use Rattle.explore_report.specs.declared.listing.Listing.{Listing}
+-- Texts that are written piece by piece.
+use Rattle.std.proofs.Common.{◌≡◌, ◌∙◌, ◌++◌, ◌∷◌, [], ℕ, List, append-nil, append_assoc, ap, refl, sym}
+use Rattle.explore_interleavings.specs.ExploreStates.{Setting}
+use Rattle.explore_interleavings.specs.declared.explorer.Explorer.{Explorer}
+use Rattle.explore_report.specs.OutcomeTexts.{IsOutcomeText}
 use Rattle.explore_report.specs.declared.outcomes.Outcome.{Outcome}
-use Rattle.explore_verdict.specs.Conditions.{all_hold}
-use Rattle.explore_verdict.specs.Judged.{HaveStates}
-use Rattle.explore_verdict.specs.Runs.{IsWell, MeetExpected}
-use Rattle.explore_verdict.specs.declared.condition.Condition.{Condition}
+use Rattle.states_reach.specs.declared.reached.Reached.{Reached}
+use Rattle.explore_verdict.specs.Pieces.{HasWritten, IsWritten, Piece, plain, shown}
 
--- two tests that are both passed
-pub both_true : (one other : Bool) → (one && other) ≡ true → (one ≡ true) × (other ≡ true)
-both_true true other is = (refl, is)
-both_true false other is = absurd (let no : false ≡ true = is in cc no)
+module _ (x : Setting) (reached : Reached Explorer) where
+  -- nothing is written
+  pub has_none : (text : List ℕ) → HasWritten x reached [] text text
+  has_none text = ([], refl, sym (append-nil text))
 
-and_true : (one other : Bool) → one ≡ true → other ≡ true → (one && other) ≡ true
-and_true one other is is' = rw (is, is') refl
+  -- bytes are written
+  pub has_plain : (old new bytes : List ℕ) → new ≡ old ++ bytes → HasWritten x reached (plain bytes ∷ []) old new
+  has_plain old new bytes is = (bytes, ([], refl, sym (append-nil bytes)), is)
 
--- all is well exactly if the outcomes are the expected ones and the conditions hold
-pub well_where : (states : List ExploreState) (outcomes : List Outcome) (conditions : List Condition) (expected : Option (List ℕ)) (is hold : Bool)
-    → ((is ≡ true) ↔ MeetExpected states outcomes expected) → hold ≡ all_hold states outcomes conditions
-    → ((is && hold) ≡ true) ↔ IsWell states outcomes conditions expected
-well_where states outcomes conditions expected is hold met all = (
-  (λ both. (let two = both_true is hold both in record { as_expected = met.0 two.0; hold = sym all ∙ two.1 })),
-  λ well. and_true is hold (met.1 well.as_expected) (all ∙ well.hold),
-)
+  -- an outcome is written
+  pub has_shown : (old new : List ℕ) (number : ℕ) (outcome : Outcome)
+      → (added : List ℕ) × (IsOutcomeText x reached outcome number added × (new ≡ old ++ added)) → HasWritten x reached (shown number outcome ∷ []) old new
+  has_shown old new number outcome (added, (is, at)) = (added, (added, [], is, refl, sym (append-nil added)), at)
 
--- the text of a verdict that is well, from its two parts
-pub well_written : (is hold : Bool) (text text' text'' front back : List ℕ) → (is ≡ true → text' ≡ text ++ front) → (hold ≡ true → text'' ≡ text' ++ back)
-    → (is && hold) ≡ true → text'' ≡ text ++ (front ++ back)
-well_written is hold text text' text'' front back one other both =
-    (let two = both_true is hold both in rw (other two.1, one two.0) (append_assoc text front back))
+  -- the pieces of one text and then those of another
+  both_written : (one more : List Piece) (front back : List ℕ) → IsWritten x reached one front → IsWritten x reached more back
+      → IsWritten x reached (one ++ more) (front ++ back)
+  both_written [] more front back none rest = rw none rest
+  both_written (plain bytes ∷ one) more front back (text, are, is) rest =
+      (text ++ back, both_written one more text back are rest, ap (λ (t : List ℕ). t ++ back) is ∙ append_assoc bytes text back)
+  both_written (shown number outcome ∷ one) more front back (first, text, shows, are, is) rest =
+      (first, text ++ back, shows, both_written one more text back are rest, ap (λ (t : List ℕ). t ++ back) is ∙ append_assoc first text back)
 
--- a listing of all outcomes has a state for each
-pub have_states : (x : Setting) (states : List ExploreState) (listing : Listing) → ListsAll x states listing → HaveStates states listing.outcomes.items
-have_states x states listing all outcome kept = (let end = all.lists.ends outcome kept in (end.0, end.1.0))
+  -- one after another
+  pub has_both : (one more : List Piece) (old mid new : List ℕ) → HasWritten x reached one old mid → HasWritten x reached more mid new
+      → HasWritten x reached (one ++ more) old new
+  has_both one more old mid new (front, are, is) (back, rest, at) =
+      (front ++ back, both_written one more front back are rest, at ∙ ap (λ (t : List ℕ). t ++ back) is ∙ append_assoc old front back)
+
+  -- what is written into an empty text is the text
+  pub is_whole : (pieces : List Piece) (text : List ℕ) → HasWritten x reached pieces [] text → IsWritten x reached pieces text
+  is_whole pieces text (added, are, is) = rw is are

@@ -4,7 +4,9 @@ use Rattle.std.specs.List.{count_by, list_all}
 use Rattle.std.specs.Option.{option_or}
 use Rattle.model_jobs.specs.Texts.{ended, number_field}
 use Rattle.explore_interleavings.specs.ExploreStates.{ExploreState}
+use Rattle.explore_report.specs.OutcomeTexts.{printed_order}
 use Rattle.explore_report.specs.declared.outcomes.Outcome.{Outcome}
+use Rattle.explore_verdict.specs.Pieces.{Piece, plain, shown}
 use Rattle.explore_verdict.specs.Patterns.{Wanted, is_match, told_in}
 use Rattle.explore_verdict.specs.Unseen.{unseen_in, unseen_text}
 use Rattle.explore_verdict.specs.declared.condition.Condition.{Condition}
@@ -55,11 +57,6 @@ condition_line states outcomes condition =
     ended (count_text condition (matching states outcomes condition.pattern) (length outcomes)
     ++ unseen_text (unseen_in states outcomes condition.pattern.clauses))
 
--- the lines of conditions
-abbrev pub condition_lines : List ExploreState → List Outcome → List Condition → List ℕ
-condition_lines states outcomes [] = []
-condition_lines states outcomes (condition ∷ conditions) = condition_line states outcomes condition ++ condition_lines states outcomes conditions
-
 -- ---- the outcome that shows that a condition doesn't hold
 
 -- whether an outcome that matches, or that doesn't, shows that the demand isn't met
@@ -84,3 +81,19 @@ abbrev pub example_from : List ExploreState → List Outcome → Condition → �
 example_from states outcomes condition number [] = None
 example_from states outcomes condition number (place ∷ order) =
     option_or (example_at states condition number (slice_get outcomes place)) (example_from states outcomes condition (number + 1) order)
+
+-- the example, as the listing has it
+abbrev pub example_pieces : Option Example → List Piece
+example_pieces None = []
+example_pieces (Some example) = shown example.number example.outcome ∷ []
+
+-- what a verdict says of a condition: its line and, if it doesn't hold, the first outcome of the listing that shows this
+abbrev pub condition_pieces : List ExploreState → List Outcome → Condition → List Piece
+condition_pieces states outcomes condition =
+    plain (condition_line states outcomes condition)
+    ∷ (if holds states outcomes condition then [] else example_pieces (example_from states outcomes condition 0 (printed_order states outcomes)))
+
+-- what a verdict says of conditions
+abbrev pub conditions_pieces : List ExploreState → List Outcome → List Condition → List Piece
+conditions_pieces states outcomes [] = []
+conditions_pieces states outcomes (condition ∷ conditions) = condition_pieces states outcomes condition ++ conditions_pieces states outcomes conditions

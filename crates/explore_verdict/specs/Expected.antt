@@ -1,36 +1,42 @@
--- The outcomes that a text lists, as blocks of workers' lines. This project's own choice.
-use Rattle.std.specs.Prelude.{ℕ, Bool, if◌then◌else◌, nat_eq, List, [], ◌∷◌, ◌++◌, Option, Some, None, codes, unwrap_or}
-use Rattle.std.specs.List.{slice_split, starts_with}
-use Rattle.model_jobs.specs.Texts.{ended}
+-- The outcomes that a text lists, each as a text. This project's own choice.
+use Rattle.std.specs.Prelude.{ℕ, Bool, false, not, ◌&&◌, ◌||◌, if◌then◌else◌, List, [], ◌∷◌, ◌++◌, Option, Some, None, option_map, unwrap_or}
+use Rattle.explore_verdict.specs.ListingLines.{is_end_line, is_outcome_line, is_plan_line, is_worker_line, lines_of}
+use Rattle.explore_verdict.specs.OpenBlocks.{Opened, block_text, opened_block, over, with_end, with_worker}
 
--- whether this is the line of a worker, as a listing has below the line of an outcome
-abbrev pub is_worker_line : List ℕ → Bool
-is_worker_line line = starts_with nat_eq line (codes "  worker ")
-
--- whether this is the line of an outcome, which opens a block
-abbrev pub is_outcome_line : List ℕ → Bool
-is_outcome_line line = starts_with nat_eq line (codes "outcome")
-
--- the list of the block that has begun, or an empty list if none has
-abbrev pub of_begun : Option (List ℕ) → List (List ℕ)
+-- the list of the text of the outcome that has begun, or an empty list if none has
+abbrev pub of_begun : Option Opened → List (List ℕ)
 of_begun None = []
-of_begun (Some block) = block ∷ []
+of_begun (Some block) = block_text block ∷ []
 
--- the block that begins with a line that is no worker's: an empty block after the line of an outcome, else none
-abbrev pub opened : List ℕ → Option (List ℕ)
-opened line = if is_outcome_line line then Some [] else None
+-- whether an outcome has begun whose workers' lines are over
+abbrev pub is_over : Option Opened → Bool
+is_over None = false
+is_over (Some block) = block.is_over
 
--- the begun block with a worker's line added, or a new block of this line if none has begun
-abbrev pub with_line : Option (List ℕ) → List ℕ → List ℕ
-with_line begun line = unwrap_or begun [] ++ ended line
+-- whether the line continues the outcome that has begun: the line of a worker if the workers' lines aren't over, the
+-- line of the end, or the line of the plan
+abbrev pub continues : List ℕ → Option Opened → Bool
+continues line begun = (is_worker_line line && not (is_over begun)) || (is_end_line line || is_plan_line line)
 
--- the blocks of these lines after this begun block, if there is one. A worker's line is added to the begun block, or
--- opens a block. Any other line closes the begun block
-abbrev pub blocks_from : Option (List ℕ) → List (List ℕ) → List (List ℕ)
+-- the outcome that goes on behind a line, if it has begun
+abbrev pub kept_begun : List ℕ → Option Opened → Option Opened
+kept_begun line begun = if continues line begun then begun else None
+
+-- the outcome that has begun behind a line, from the one that goes on
+abbrev pub begun_with : List ℕ → Option Opened → Option Opened
+begun_with line kept =
+    if is_worker_line line then Some (with_worker line (unwrap_or kept opened_block))
+    else (if is_end_line line then option_map (with_end line) kept
+    else (if is_plan_line line then option_map over kept
+    else (if is_outcome_line line then Some opened_block else None)))
+
+-- the texts of the outcomes of these lines after this begun outcome, if there is one
+abbrev pub blocks_from : Option Opened → List (List ℕ) → List (List ℕ)
 blocks_from begun [] = of_begun begun
 blocks_from begun (line ∷ lines) =
-    if is_worker_line line then blocks_from (Some (with_line begun line)) lines else of_begun begun ++ blocks_from (opened line) lines
+    (if continues line begun then [] else of_begun begun) ++ blocks_from (begun_with line (kept_begun line begun)) lines
 
--- the blocks of a text. The last line of the text may be without a line end
+-- the texts of the outcomes of a text: each the lines of its workers, in the order of the workers, and the line of its
+-- end if it has one
 abbrev pub blocks_of : List ℕ → List (List ℕ)
-blocks_of text = blocks_from None (slice_split (λ b. nat_eq b 10) text)
+blocks_of text = blocks_from None (lines_of text)

@@ -1,51 +1,70 @@
--- The verdict on a listing: its outcomes are those that a text lists, or some outcomes are missing or unexpected.
-use Rattle.std.specs.Prelude.{◌≡◌, ℕ, List, [], Some, slice_get}
-use Rattle.model_words.specs.declared.commands.Reply.{Reply}
-use Rattle.explore_interleavings.specs.ExploreStates.{ExploreState}
-use Rattle.states_reach.specs.Reach.{IsAbsent, IsKept}
-use Rattle.explore_report.specs.Listings.{IsOutcome, IsToldAt}
-use Rattle.explore_report.specs.ToldTexts.{told_text}
+-- The differences between a listing and what a text lists. This project's own choice.
+use Rattle.std.specs.Prelude.{◌≡◌, ℕ, Bool, not, ◌&&◌, ◌||◌, if◌then◌else◌, nat_eq, List, [], ◌∷◌, ◌++◌, length, map, slice_get}
+use Rattle.std.specs.List.{list_any}
+use Rattle.explore_interleavings.specs.ExploreStates.{ExploreState, Setting}
+use Rattle.explore_report.specs.CommandTexts.{commands_text}
+use Rattle.explore_report.specs.EndTexts.{end_text, text_of_some}
+use Rattle.explore_report.specs.OutcomeTexts.{told_text_at}
+use Rattle.explore_report.specs.declared.listing.Listing.{Listing}
 use Rattle.explore_report.specs.declared.outcomes.Outcome.{Outcome}
-use Rattle.explore_verdict.specs.declared.judging.Verdict.{Verdict}
+use Rattle.explore_verdict.specs.Answers.{answers_of}
+use Rattle.explore_verdict.specs.Expected.{blocks_of}
+use Rattle.explore_verdict.specs.TextSets.{distinct, is_in, missing_in}
+use Rattle.explore_verdict.specs.declared.judging.Differences.{Differences}
 
--- each outcome's place is that of a state
-abbrev pub HaveStates : List ExploreState → List Outcome → Type 0
-HaveStates states outcomes = (outcome : Outcome) → IsKept outcomes outcome → (s : ExploreState) × (slice_get states outcome.place ≡ Some s)
+-- whether there is no such thing
+abbrev pub is_empty : {A : Type 0} → List A → Bool
+is_empty xs = nat_eq (length xs) 0
 
--- the text is that of the workers' replies in the state at a place
-pub record IsTextAt (states : List ExploreState) (place : ℕ) (text : List ℕ) : Type 0 where
-  pub told : List (List Reply)
-  pub there : IsToldAt states place told
-  pub is : text ≡ told_text told
+-- ---- outcomes
 
--- the text is that of an outcome
-abbrev pub IsTextOfOne : List ExploreState → List Outcome → List ℕ → Type 0
-IsTextOfOne states outcomes text = (told : List (List Reply)) × (IsOutcome states outcomes told × (text ≡ told_text told))
+-- the text of an outcome: the lines of its workers. With the line of its end behind them it is `whole_text`
+abbrev pub short_text : List ExploreState → Outcome → List ℕ
+short_text states outcome = told_text_at states outcome.place
 
--- the block is one of the blocks, but the text of no outcome
-abbrev pub IsMissing : List ExploreState → List Outcome → List (List ℕ) → List ℕ → Type 0
-IsMissing states outcomes blocks block = IsKept blocks block × (IsTextOfOne states outcomes block → ⊥)
+abbrev pub whole_text : Setting → List ExploreState → Outcome → List ℕ
+whole_text x states outcome = short_text states outcome ++ text_of_some (end_text x) (slice_get states outcome.place)
 
--- the text of the outcome at a place is none of the blocks
-pub record IsUnexpected (states : List ExploreState) (outcomes : List Outcome) (blocks : List (List ℕ)) (place : ℕ) : Type 0 where
-  pub outcome : Outcome
-  pub there : slice_get outcomes place ≡ Some outcome
-  pub text : List ℕ
-  pub is_text : IsTextAt states outcome.place text
-  pub absent : IsAbsent blocks text
+-- both texts of each outcome
+abbrev pub outcome_texts : Setting → List ExploreState → List Outcome → List (List ℕ)
+outcome_texts x states [] = []
+outcome_texts x states (outcome ∷ outcomes) = short_text states outcome ∷ whole_text x states outcome ∷ outcome_texts x states outcomes
 
--- no outcome is missing, and none is unexpected
-pub record IsClean (verdict : Verdict) : Type 0 where
-  pub missing : verdict.missing.items ≡ []
-  pub unexpected : verdict.unexpected.items ≡ []
+-- whether none of the texts is one of the outcome
+abbrev pub is_unexpected : Setting → List ExploreState → List (List ℕ) → Outcome → Bool
+is_unexpected x states texts outcome = not (is_in texts (short_text states outcome) || is_in texts (whole_text x states outcome))
 
--- the outcomes are those that the blocks list: the text of each outcome is a block, and each block is the text of an
--- outcome
-pub record AreAsExpected (states : List ExploreState) (outcomes : List Outcome) (blocks : List (List ℕ)) : Type 0 where
-  pub listed : (told : List (List Reply)) → IsOutcome states outcomes told → IsKept blocks (told_text told)
-  pub had : (block : List ℕ) → IsKept blocks block → IsTextOfOne states outcomes block
+-- which outcomes are unexpected. If the text lists no outcome, outcomes aren't compared
+abbrev pub unexpected_in : Setting → List ExploreState → List Outcome → List (List ℕ) → List Bool
+unexpected_in x states outcomes blocks = map (λ outcome. not (is_empty blocks) && is_unexpected x states (distinct blocks) outcome) outcomes
 
--- the texts are those of the outcomes, in their order
-pub record AreTextsOf (states : List ExploreState) (outcomes : List Outcome) (texts : List (List ℕ)) : Type 0 where
-  pub each : (i : ℕ) (text : List ℕ) → slice_get texts i ≡ Some text → (outcome : Outcome) × ((slice_get outcomes i ≡ Some outcome) × IsTextAt states outcome.place text)
-  pub all : (i : ℕ) (outcome : Outcome) → slice_get outcomes i ≡ Some outcome → (text : List ℕ) × (slice_get texts i ≡ Some text)
+-- ---- answers
+
+-- the answers that the listing has
+abbrev pub listed_answers : Setting → List ExploreState → Listing → List (List ℕ)
+listed_answers x states listing = answers_of (commands_text x states listing)
+
+-- the answers of the listing that the text doesn't list. If the text lists none, answers aren't compared
+abbrev pub unexpected_answers : List (List ℕ) → List (List ℕ) → List (List ℕ)
+unexpected_answers expected listed = if is_empty expected then [] else missing_in (distinct expected) listed
+
+-- ---- the verdict
+
+-- these are the differences between the listing and what the text lists
+pub record AreDifferences (x : Setting) (states : List ExploreState) (listing : Listing) (text : List ℕ) (differences : Differences) : Type 0 where
+  pub missing_answers : differences.missing_answers.items ≡ missing_in (distinct (listed_answers x states listing)) (answers_of text)
+  pub unexpected_answers : differences.unexpected_answers.items ≡ unexpected_answers (answers_of text) (listed_answers x states listing)
+  pub missing : differences.missing.items ≡ missing_in (distinct (outcome_texts x states listing.outcomes.items)) (blocks_of text)
+  pub unexpected : differences.unexpected.items ≡ unexpected_in x states listing.outcomes.items (blocks_of text)
+
+-- whether an outcome is unexpected
+abbrev pub is_any : List Bool → Bool
+is_any flags = list_any (λ flag. flag) flags
+
+-- whether the listing has what the text lists, and nothing else of its kind
+abbrev pub is_as_expected : Setting → List ExploreState → Listing → List ℕ → Bool
+is_as_expected x states listing text =
+    is_empty (missing_in (distinct (listed_answers x states listing)) (answers_of text))
+    && (is_empty (unexpected_answers (answers_of text) (listed_answers x states listing))
+    && (is_empty (missing_in (distinct (outcome_texts x states listing.outcomes.items)) (blocks_of text))
+    && not (is_any (unexpected_in x states listing.outcomes.items (blocks_of text)))))

@@ -1,10 +1,14 @@
+pub mod Answers
 pub mod Begun
-pub mod Compared
 pub mod Conditions
 pub mod Expected
 pub mod Judged
 pub mod ListFaults
+pub mod ListingLines
 pub mod Mismatches
+pub mod OpenBlocks
 pub mod Patterns
+pub mod Pieces
 pub mod Runs
+pub mod TextSets
 pub mod Unseen

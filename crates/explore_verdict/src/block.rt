@@ -38,6 +38,13 @@ impl Block {
         Block { bytes }
     }
 
+    /// Appends bytes.
+    pub(crate) fn add(&mut self, bytes: &[u8]) -> Result<(), AllocError>
+        ensures { OnOk result (self.new ≡ self.old ++ bytes.now) }
+    {
+        self.bytes.extend_from_slice(bytes)
+    }
+
     /// Appends a line and a line end.
     pub(crate) fn add_line(&mut self, line: &[u8]) -> Result<(), AllocError>
         ensures { OnOk result (self.new ≡ self.old ++ ended line.now) }

@@ -1,13 +1,15 @@
 //! Judges conditions, and writes what a verdict says of them.
-ghost use Rattle.std.specs.Prelude.{◌≡◌, ◌++◌, ◌≤◌, ◌^◌, ◌<◌, true, IfOk, OnOk, length, slice_get};
-ghost use Rattle.explore_verdict.specs.Conditions.{all_hold, condition_line, condition_lines, count_text, example_at, example_from, holds, is_example, matches, matching};
+ghost use Rattle.std.specs.Prelude.{◌≡◌, ◌++◌, [], IfOk, OnOk, if◌then◌else◌};
+ghost use Rattle.explore_report.specs.OutcomeTexts.{printed_order};
+ghost use Rattle.explore_verdict.specs.Conditions.{all_hold, condition_line, condition_pieces, conditions_pieces, count_text, example_at, example_from, example_pieces, holds, is_example, matches, matching};
+ghost use Rattle.explore_verdict.specs.Pieces.{HasWritten};
 
 use crate::condition::Condition;
 use crate::matching::is_match;
 use crate::pattern::Pattern;
 use crate::unseen::{add_unseen, unseen_in};
 use explore_interleavings::Explorer;
-use explore_report::{Listing, Outcome, add_outcome};
+use explore_report::{Outcome, add_outcome};
 use states_reach::{Reached, System};
 use std::alloc::{AllocError, Global};
 use text_words::add_decimal;
@@ -20,53 +22,49 @@ pub(crate) struct Example {
     outcome: Outcome,
 }
 
-/// Adds the lines of conditions. Below the line of one that doesn't hold, adds the first outcome that shows this, in
-/// the order of the listing, if there is one. `order` has the places of the outcomes in this order. Returns whether
-/// each condition holds.
+/// Adds what a verdict says of conditions. `order` has the places of the outcomes in the order of the listing. Returns
+/// whether each condition holds.
 pub(crate) fn add_conditions(
     alloc: Global,
     text: &mut Vec<u8>,
     reached: &Reached<Explorer<'_>>,
-    listing: &Listing,
+    outcomes: &[Outcome],
     order: &[usize],
     conditions: &[Condition],
 ) -> Result<bool, AllocError>
-    ensures hold { IfOk result
-        (λ hold. hold ≡ all_hold reached.now.system.states listing.now.outcomes.items conditions.now) }
-    ensures lines { IfOk result (λ hold. hold ≡ true → text.new.items
-        ≡ text.old.items ++ condition_lines reached.now.system.states listing.now.outcomes.items conditions.now) }
+    requires { order.now ≡ printed_order reached.now.system.states outcomes.now }
+    ensures hold { IfOk result (λ hold. hold ≡ all_hold reached.now.system.states outcomes.now conditions.now) }
+    ensures written { OnOk result (HasWritten reached.now.system.setting reached.now
+        (conditions_pieces reached.now.system.states outcomes.now conditions.now) text.old.items text.new.items) }
 {
     let mut hold = true;
     let mut rest = conditions;
     while let [condition, behind @ ..] = rest {
-        hold &= add_condition(alloc, text, reached, listing, order, condition)?;
+        hold &= add_condition(alloc, text, reached, outcomes, order, condition)?;
         rest = behind;
     }
     Ok(hold)
 }
 
-/// Adds what these lines say of one condition. Returns whether it holds.
+/// Adds what a verdict says of a condition. Returns whether it holds.
 fn add_condition(
     alloc: Global,
     text: &mut Vec<u8>,
     reached: &Reached<Explorer<'_>>,
-    listing: &Listing,
+    outcomes: &[Outcome],
     order: &[usize],
     condition: &Condition,
 ) -> Result<bool, AllocError>
-    ensures holds { IfOk result
-        (λ is. is ≡ holds reached.now.system.states listing.now.outcomes.items condition.now) }
-    ensures line { IfOk result (λ is. is ≡ true → text.new.items
-        ≡ text.old.items ++ condition_line reached.now.system.states listing.now.outcomes.items condition.now) }
+    requires { order.now ≡ printed_order reached.now.system.states outcomes.now }
+    ensures holds { IfOk result (λ is. is ≡ holds reached.now.system.states outcomes.now condition.now) }
+    ensures written { OnOk result (HasWritten reached.now.system.setting reached.now
+        (condition_pieces reached.now.system.states outcomes.now condition.now) text.old.items text.new.items) }
 {
-    let outcomes = listing.outcomes.as_slice();
     let count = matching(alloc, &reached.system, outcomes, &condition.pattern)?;
     add_line(alloc, text, &reached.system, outcomes, condition, count)?;
-    if condition.demand.is_met(count, outcomes.len()) {
-        return Ok(true);
-    }
-    add_example(alloc, text, reached, outcomes, order, condition)?;
-    Ok(false)
+    let holds = condition.demand.is_met(count, outcomes.len());
+    add_example(alloc, text, reached, outcomes, order, condition, holds)?;
+    Ok(holds)
 }
 
 /// Adds the line of a condition that so many outcomes match.
@@ -142,7 +140,7 @@ fn matches(
     }
 }
 
-/// Adds the outcome that shows that a condition doesn't hold, if there is one.
+/// Adds the first outcome that shows that a condition doesn't hold, if there is one. Adds nothing if it holds.
 fn add_example(
     alloc: Global,
     text: &mut Vec<u8>,
@@ -150,8 +148,30 @@ fn add_example(
     outcomes: &[Outcome],
     order: &[usize],
     condition: &Condition,
-) -> Result<(), AllocError> {
-    match first_example(alloc, &reached.system, outcomes, order, condition)? {
+    holds: bool,
+) -> Result<(), AllocError>
+    ensures { OnOk result (HasWritten reached.now.system.setting reached.now
+        (if holds then [] else example_pieces (example_from reached.now.system.states outcomes.now condition.now 0 order.now))
+        text.old.items text.new.items) }
+{
+    if holds {
+        return Ok(());
+    }
+    let example = first_example(alloc, &reached.system, outcomes, order, condition)?;
+    add_shown(alloc, text, reached, example)
+}
+
+/// Adds an example, if there is one.
+fn add_shown(
+    alloc: Global,
+    text: &mut Vec<u8>,
+    reached: &Reached<Explorer<'_>>,
+    example: Option<Example>,
+) -> Result<(), AllocError>
+    ensures { OnOk result (HasWritten reached.now.system.setting reached.now
+        (example_pieces example) text.old.items text.new.items) }
+{
+    match example {
         Some(example) => add_outcome(alloc, text, reached, example.outcome, example.number as u64),
         None => Ok(()),
     }

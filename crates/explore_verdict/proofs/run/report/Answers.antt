@@ -1,11 +1,13 @@
-use Rattle.std.proofs.Common.{refl, subst}
+use Rattle.std.proofs.Common.{◌≡◌, ap, refl, subst}
 use Rattle.explore_interleavings.specs.ExploreStates.{Setting}
-use Rattle.explore_verdict.proofs.Runs.{have_states}
+use Rattle.std.specs.Option.{option_copied}
 use Rattle.explore_verdict.specs.Mismatches.{AreMatchable, IsUnmatchable}
+use Rattle.explore_verdict.specs.Pieces.{IsWritten}
+use Rattle.explore_verdict.specs.Runs.{is_well_begun, verdict_pieces}
 use Rattle.explore_verdict.proofs.run.report.Goals as goal
 
 pub report_begun-requires : goal.report_begun-requires
-report_begun-requires g c = have_states _ c.in_ok-all.all.reached.system.states c.in_ok-all.all.listing c.in_ok-all.ensures.listed
+report_begun-requires g c = ap (λ (x : Setting). x.pairs) c.in_ok-all.ensures.explored.setting
 
 pub returns-in-Some-clause-report : goal.returns-in-Some-clause-report
 returns-in-Some-clause-report g c =
@@ -20,15 +22,20 @@ returns-in-Some-clause-report g c =
 pub returns-clause-report : goal.returns-clause-report
 returns-clause-report g c =
     let reached = c.in_ok-all.all.reached in
+    let listing = c.in_ok-all.all.listing in
+    let options = c.args.options.now in
+    let expected = option_copied c.args.expected in
+    let report = c.in_ok-report.report in
     record {
       reached = reached;
       explored = c.in_ok-all.ensures.explored;
       few = c.in_ok-all.ensures.few;
-      listing = c.in_ok-all.all.listing;
+      listing = listing;
       lists = c.in_ok-all.ensures.listed;
-      is_well = c.in_ok-report.ensures.well;
-      line = c.in_ok-report.ensures.line;
-      matchable = subst (λ (x : Setting). AreMatchable x reached.system.states c.args.options.now.conditions.now) c.in_ok-all.ensures.explored.setting
+      matchable = subst (λ (x : Setting). AreMatchable x reached.system.states options.conditions.now) c.in_ok-all.ensures.explored.setting
           (c.in_default.ensures.none refl);
-      unbegun = c.in_ok-report.ensures.unbegun;
+      is_well = subst (λ (x : Setting). report.well ≡ is_well_begun x reached.system.states listing options.must_begin options.conditions.now expected)
+          c.in_ok-all.ensures.explored.setting c.in_ok-report.ensures.well;
+      told = subst (λ (x : Setting). IsWritten x reached (verdict_pieces x reached.system.states listing options.must_begin options.conditions.now expected) report.text.items)
+          c.in_ok-all.ensures.explored.setting c.in_ok-report.ensures.told;
     }
