@@ -5,6 +5,7 @@ pub mod EndTexts
 pub mod Endings
 pub mod FoundOutcomes
 pub mod Kept
+pub mod ListingTexts
 pub mod NotedAnswers
 pub mod OutcomeTexts
 pub mod Paths

@@ -1,10 +1,12 @@
 pub mod CommandTexts
+pub mod Counts
 pub mod EndTexts
 pub mod Ends
 pub mod Errors
 pub mod Explorations
 pub mod FoundOutcomes
 pub mod JobLines
+pub mod ListingTexts
 pub mod Listings
 pub mod OutcomeTexts
 pub mod Paths
