@@ -1,4 +1,4 @@
-use Rattle.std.proofs.Common.{◌<◌, arith, length, subst}
+use Rattle.std.proofs.Common.{◌<◌, arith, length}
 use Rattle.explore_interleavings.specs.ExploreStates.{script_of}
 use Rattle.explore_report.specs.CommandTexts.{command_at}
 use Rattle.explore_report.proofs.CommandTexts.{from_next}

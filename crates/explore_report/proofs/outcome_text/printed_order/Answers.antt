@@ -1,4 +1,4 @@
-use Rattle.std.proofs.Common.{◌≡◌, ◌∙◌, ◌≤◌, ap, get_or, length, sym}
+use Rattle.std.proofs.Common.{◌≡◌, ◌∙◌, ap, get_or, sym}
 use Rattle.std.proofs.lemmas.Option.{slice_get-get_or}
 use Rattle.std.proofs.lemmas.Result.{IfOk-weaker}
 use Rattle.explore_report.specs.OutcomeTexts.{outcome_entries, outcome_order, printed_order}
