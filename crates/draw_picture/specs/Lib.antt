@@ -1,1 +1,3 @@
 pub mod Cards
+pub mod Notes
+pub mod Pictures

@@ -1,4 +1,7 @@
 //! The lines above a frame, and whether a new frame is to be drawn.
+ghost use Rattle.std.specs.Prelude.{◌≡◌, ◌++◌, IfOk, OnOk, map};
+ghost use Rattle.draw_picture.specs.Notes.{cut_text, plain_byte};
+
 use crate::alike::{are_alike, copied, empty_frame, shows_nothing};
 use crate::frame::Frame;
 use crate::numbers::narrow;
@@ -167,15 +170,43 @@ fn caption_of(alloc: Global, line: &Line<'_>) -> Result<Caption, AllocError> {
 
 /// Returns the bytes `first`, and then the first `most` bytes of a text, followed by two dots if the text is longer.
 /// Any byte of the text that is not printable ASCII becomes a question mark. The only error is an allocation failure.
-pub fn cut(alloc: Global, first: &[u8], words: &[u8], most: usize) -> Result<Vec<u8>, AllocError> {
+pub fn cut(alloc: Global, first: &[u8], words: &[u8], most: usize) -> Result<Vec<u8>, AllocError>
+    ensures { IfOk result (λ all. all.items ≡ first.now ++ cut_text most words.now) }
+{
     let mut all = Vec::new(alloc);
     all.extend_from_slice(first)?;
-    for byte in words.iter().take(most) {
-        let plain = (32..127).contains(byte);
-        all.push(if plain { *byte } else { b'?' })?;
-    }
-    if words.len() > most {
-        all.extend_from_slice(b"..")?;
-    }
+    add_cut(&mut all, words, most)?;
     Ok(all)
+}
+
+/// Appends the first `most` bytes of a text, followed by two dots if the text is longer.
+fn add_cut(all: &mut Vec<u8>, words: &[u8], most: usize) -> Result<(), AllocError>
+    ensures { OnOk result (all.new.items ≡ all.old.items ++ cut_text most words.now) }
+{
+    if words.len() <= most {
+        return add_plain(all, words);
+    }
+    add_plain(all, &words[..most])?;
+    Ok(all.extend_from_slice(b"..")?)
+}
+
+/// Appends a text. Any byte that is not printable ASCII becomes a question mark.
+fn add_plain(all: &mut Vec<u8>, words: &[u8]) -> Result<(), AllocError>
+    ensures { OnOk result (all.new.items ≡ all.old.items ++ map plain_byte words.now) }
+{
+    for byte in words {
+        all.push(plain_byte(*byte))?;
+    }
+    Ok(())
+}
+
+/// Returns a byte of printable ASCII itself, and a question mark for any other byte.
+fn plain_byte(byte: u8) -> u8
+    ensures { result ≡ plain_byte byte }
+{
+    if (32..127).contains(&byte) {
+        byte
+    } else {
+        b'?'
+    }
 }

@@ -150,15 +150,20 @@ impl Label {
 
     /// Draws words.
     pub fn draw(self, shapes: &mut Shapes, words: Vec<u8>) {
+        let place = self.place_of(words.as_slice());
+        shapes.words(place, words);
+    }
+
+    /// Returns the place and the style of words.
+    pub fn place_of(self, words: &[u8]) -> Place {
         let (rule, _, _) = self.face.design();
-        let width = width_of(self.face, words.as_slice());
-        let place = Place {
+        let width = width_of(self.face, words);
+        Place {
             look: self.ink.with(rule),
             anchor: self.anchor,
             x: self.x,
             y: self.y,
             width: Some(width.min(self.room).max(1)),
-        };
-        shapes.words(place, words);
+        }
     }
 }

@@ -7,7 +7,7 @@
 //! a `Measure`, and the second time to the `Picture` that is made from the measure. The picture appends its text to a
 //! buffer.
 //!
-//! These modules measure a card: `parts`, `layout`, `lettering` and `pills`. These modules draw it: `pages`,
+//! `notes` writes a picture's title, and the note after it. These modules measure a card: `parts`, `layout`, `lettering` and `pills`. These modules draw it: `pages`,
 //! `objects`, `occupancy`, `mesh_bar`, `arrows` and `legend`.
 #![tactic(auto)]
 
@@ -20,6 +20,7 @@ mod legend;
 mod lettering;
 mod measure;
 mod mesh_bar;
+mod notes;
 mod numbers;
 mod objects;
 mod occupancy;

@@ -18,7 +18,6 @@ pub struct Measure {
     physical: u32,
     widest: u32,
     extents: Vec<Extent>,
-    lines: Option<(u32, u32)>,
     // The number of the line that is expected next.
     next: usize,
 }
@@ -38,8 +37,6 @@ pub struct Measured {
     pub layout: Layout,
     /// The height of each row of cards.
     pub rows: Vec<u32>,
-    /// The numbers of the first and the last line that were measured, or `None` if no line was.
-    pub lines: Option<(u32, u32)>,
 }
 
 impl Measure {
@@ -53,7 +50,6 @@ impl Measure {
             physical: 0,
             widest: 0,
             extents: Vec::new(alloc),
-            lines: None,
             next,
         }
     }
@@ -70,11 +66,6 @@ impl Measure {
         ensures { OnOk result (self.new ≡ line.now.number + 1) }
     {
         self.next = line.number as usize + 1;
-        let first = match self.lines {
-            Some((first, _)) => first,
-            None => line.number,
-        };
-        self.lines = Some((first, line.number));
         self.gathering.add(line)?;
         if self.gathering.is_due(frame) {
             self.measure(frame)?;
@@ -105,11 +96,7 @@ impl Measure {
         let cards = narrow(self.extents.len());
         let layout = Layout::new(self.spans, self.physical, self.widest, cards, columns);
         let rows = row_heights(&layout, self.extents.as_slice(), *self.extents.allocator())?;
-        Ok(Measured {
-            layout,
-            rows,
-            lines: self.lines,
-        })
+        Ok(Measured { layout, rows })
     }
 }
 

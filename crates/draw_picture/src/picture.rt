@@ -1,6 +1,7 @@
 //! The picture: one card for each visible change of the heap.
-ghost use Rattle.std.specs.Prelude.{◌≡◌, ◌+◌, [], IfOk, IfSome, MatchBool, OnOk, Some, codes};
-ghost use Rattle.draw_picture.specs.Cards.{DrawsCard, EndsFile};
+ghost use Rattle.std.specs.Prelude.{◌≡◌, ◌+◌, ◌≤◌, [], IfOk, IfSome, MatchBool, OnOk, Some, codes};
+ghost use Rattle.draw_picture.specs.Cards.{DrawsCard, DrawsTitle, EndsFile, IsHead};
+ghost use Rattle.draw_picture.specs.Notes.{file_title, lines_between, note_text, shown_title};
 ghost use Rattle.draw_svg.specs.Begins.{Begins};
 ghost use Rattle.draw_svg.specs.Shapes.{Draws};
 
@@ -12,6 +13,7 @@ use crate::legend::draw_legend;
 use crate::lettering::{Face, Label, width_of};
 use crate::measure::{Measure, Measured};
 use crate::mesh_bar::draw_meshes;
+use crate::notes::{add_words, lines_between, note_of};
 use crate::numbers::{narrow, sum};
 use crate::occupancy::draw_groups;
 use crate::pages::{Scene, draw_pages};
@@ -23,9 +25,6 @@ use std::marker::Model;
 
 /// The greatest number of bytes that are shown of a title.
 const MAX_TITLE: usize = 64;
-
-/// What the word `saved` of a card means.
-const SAVED: &str = "; saved = virtual pages mapped − physical pages taken";
 
 /// The least width of a picture, which the legend needs.
 const LEAST_WIDTH: u32 = 12_200;
@@ -47,7 +46,8 @@ pub struct Picture {
     // The title of the file, and the title that is drawn.
     title: Vec<u8>,
     name: Vec<u8>,
-    header: Header,
+    // The note after the title that is drawn.
+    note: Vec<u8>,
     gathering: Gathering,
     row: usize,
     column: u32,
@@ -57,16 +57,21 @@ pub struct Picture {
 }
 
 impl Model for Picture {
-    ghost use Rattle.std.specs.Prelude.{ℕ};
+    ghost use Rattle.draw_picture.specs.Pictures.{Shown};
 
-    ghost Value = { ℕ };
+    ghost Value = { Shown };
 
-    ghost view = { λ picture. picture.next };
+    ghost view = { λ picture. record {
+      next = picture.next;
+      title = picture.title.items;
+      name = picture.name.items;
+      note = picture.note.items;
+    } };
 }
 
 #[rattlefmt::skip]
 impl Drop for Picture {
-    fn drop(self) { let Picture { measured: _, title: _, name: _, header: _, gathering: _, row: _, column: _, y: _, next: _ } = self; }
+    fn drop(self) { let Picture { measured: _, title: _, name: _, note: _, gathering: _, row: _, column: _, y: _, next: _ } = self; }
 }
 
 /// The options of a picture.
@@ -81,20 +86,31 @@ pub struct Drawn<'a> {
 }
 
 impl Picture {
-    /// Returns a picture with these measurements, before its first frame. The only error is an allocation failure.
+    /// Returns a picture with these measurements, before its first frame. The note after its title has the numbers of
+    /// the first and the last line that were measured. The only error is an allocation failure.
     pub fn new(
         alloc: Global,
         measure: Measure,
         header: Header,
         drawn: Drawn<'_>,
     ) -> Result<Picture, AllocError>
-        ensures { IfOk result (λ picture. picture ≡ drawn.entry.first) }
+        requires { measure ≤ 4294967296 }
+        ensures next { IfOk result (λ picture. picture.next ≡ drawn.entry.first) }
+        ensures title { IfOk result (λ picture. picture.title ≡ file_title drawn.entry.title.now) }
+        ensures name { IfOk result (λ picture. picture.name ≡ shown_title drawn.entry.title.now) }
+        ensures note { IfOk result
+            (λ picture. Begins
+            (note_text header.version header.pages header.workers (lines_between drawn.entry.first measure)) picture.note) }
     {
+        let lines = lines_between(drawn.first, measure.next_line());
+        let note = note_of(alloc, header, lines)?;
+        let title = cut(alloc, b"Meshing in ", drawn.title.as_bytes(), MAX_TITLE)?;
+        let name = cut(alloc, b"", drawn.title.as_bytes(), MAX_TITLE)?;
         Ok(Picture {
             measured: measure.finish(drawn.columns)?,
-            title: cut(alloc, b"Meshing in ", drawn.title.as_bytes(), MAX_TITLE)?,
-            name: cut(alloc, b"", drawn.title.as_bytes(), MAX_TITLE)?,
-            header,
+            title,
+            name,
+            note,
             gathering: Gathering::new(alloc),
             row: 0,
             column: 0,
@@ -105,24 +121,23 @@ impl Picture {
 
     /// Returns the number of the line that is expected next.
     pub fn next_line(&self) -> usize
-        ensures { result ≡ self.now }
+        ensures { result ≡ self.now.next }
     {
         self.next
     }
 
-    /// Appends the text before the first frame. If `text` was empty, it begins with `<svg` afterwards, unless an
-    /// allocation failed.
+    /// Appends the text before the first frame: the root element with the title of the file, the style, and the title
+    /// that is drawn with its note. If `text` was empty, it begins with `<svg` afterwards, unless an allocation failed.
     pub fn head(&self, text: &mut Text)
-        ensures { text.old ≡ Some [] → IfSome text.new (Begins (codes "<svg")) }
+        ensures begins { text.old ≡ Some [] → IfSome text.new (Begins (codes "<svg")) }
+        ensures head { text.old ≡ Some [] → IfSome text.new (IsHead self.now) }
     {
-        let mut shapes = Shapes::new(text.alloc());
         let all = self.area();
         text.add_root(self.title.as_slice(), all.w, all.h);
         add_rules(text);
-        shapes.rect(Look::of("bg"), all, 0);
-        self.draw_title(&mut shapes, all.w);
-        draw_legend(&mut shapes, self.measured.layout.by_pages);
-        text.draw(&shapes);
+        text.add_shape(&Shape::Rect(Look::of("bg"), all, 0));
+        self.draw_title(text, all.w);
+        self.add_legend(text);
     }
 
     /// Returns the area of the whole picture.
@@ -140,23 +155,25 @@ impl Picture {
         )
     }
 
-    /// Draws the title, and a note after it: the values of the job's header, the numbers of the plan's lines, and what
-    /// `saved` is.
-    fn draw_title(&self, shapes: &mut Shapes, width: u32) {
-        let title = shapes.spell(self.name.as_slice(), "", &[]);
-        let left = width_of(Face::Title, title.as_slice()).saturating_add(MARGIN + 160);
-        Label::start(Face::Title, "ink", MARGIN, 290).draw(shapes, title);
+    /// Draws the title, and the note after it.
+    fn draw_title(&self, text: &mut Text, width: u32)
+        ensures { DrawsTitle self.now.name self.now.note text.old text.new }
+    {
+        let name = self.name.as_slice();
+        let left = width_of(Face::Title, name).saturating_add(MARGIN + 160);
         let room = width.saturating_sub(MARGIN).saturating_sub(left);
-        let header = self.header.spelled(shapes);
-        let (lines, first, last) = match self.measured.lines {
-            Some((first, last)) => ("; plan lines # to #", first, last),
-            None => ("", 0, 0),
-        };
-        let about = shapes.spell(header.as_slice(), lines, &[first, last]);
-        let note = shapes.spell(about.as_slice(), SAVED, &[]);
-        Label::start(Face::Note, "soft", left, 290)
-            .within(room)
-            .draw(shapes, note);
+        add_words(text, Label::start(Face::Title, "ink", MARGIN, 290), name);
+        let label = Label::start(Face::Note, "soft", left, 290).within(room);
+        add_words(text, label, self.note.as_slice());
+    }
+
+    /// Draws the legend.
+    fn add_legend(&self, text: &mut Text)
+        ensures { Draws text.old text.new }
+    {
+        let mut shapes = Shapes::new(text.alloc());
+        draw_legend(&mut shapes, self.measured.layout.by_pages);
+        text.draw(&shapes);
     }
 
     /// Adds a point: a line of the plan, and the heap after this line. Draws a card if the heap doesn't look as in the
@@ -168,7 +185,7 @@ impl Picture {
         frame: &Frame,
         text: &mut Text,
     ) -> Result<bool, AllocError>
-        ensures next { OnOk result (self.new ≡ line.now.number + 1) }
+        ensures next { OnOk result (self.new.next ≡ line.now.number + 1) }
         ensures drawn { IfOk result (λ drawn. MatchBool drawn (DrawsCard text.old text.new) (text.new ≡ text.old)) }
     {
         self.next = line.number as usize + 1;
@@ -276,17 +293,6 @@ impl Picture {
         } else {
             None
         }
-    }
-}
-
-impl Header {
-    /// Returns the header's values as words.
-    fn spelled(self, shapes: &mut Shapes) -> Vec<u8> {
-        let template = match self.workers {
-            1 => "version #, # physical pages of 4096 bytes, # worker",
-            _ => "version #, # physical pages of 4096 bytes, # workers",
-        };
-        shapes.spell(b"", template, &[self.version, self.pages, self.workers])
     }
 }
 

@@ -1,0 +1,105 @@
+//! The title of a picture, and the note after it.
+ghost use Rattle.std.specs.Prelude.{◌≡◌, ◌++◌, ◌≤◌, IfOk};
+ghost use Rattle.draw_picture.specs.Cards.{DrawsWords};
+ghost use Rattle.draw_picture.specs.Notes.{header_text, lines_between, lines_text, note_text};
+ghost use Rattle.draw_svg.specs.Begins.{Begins};
+
+use crate::lettering::Label;
+use crate::picture::Header;
+use draw_svg::{Shape, Text, words_of};
+use std::alloc::{AllocError, Global};
+
+/// What the word `saved` of a card means.
+const SAVED: &str = "; saved = virtual pages mapped − physical pages taken";
+
+/// Returns the numbers of the first and the last line from `first` on that come before line `next`, or `None` if there
+/// is no such line.
+pub(crate) fn lines_between(first: usize, next: usize) -> Option<(u32, u32)>
+    requires { next ≤ 4294967296 }
+    ensures { result ≡ lines_between first next }
+{
+    if first < next {
+        Some((first as u32, (next - 1) as u32))
+    } else {
+        None
+    }
+}
+
+/// Returns the note after a title: the values of the job's header, the numbers of the first and the last line, and what
+/// `saved` means. The only error is an allocation failure.
+pub(crate) fn note_of(
+    alloc: Global,
+    header: Header,
+    lines: Option<(u32, u32)>,
+) -> Result<Vec<u8>, AllocError>
+    ensures { IfOk result
+        (λ note. Begins (note_text header.version header.pages header.workers lines) note.items) }
+{
+    let about = header_words(alloc, header)?;
+    let note = add_lines(alloc, about, lines)?;
+    words_of(alloc, note.as_slice(), SAVED, &[])
+}
+
+/// Returns the values of a job's header as words.
+#[tactic(auto, unfolding(crate::specs::Notes::header_text))]
+fn header_words(alloc: Global, header: Header) -> Result<Vec<u8>, AllocError>
+    ensures { IfOk result (λ words. words.items ≡ header_text header.version header.pages header.workers) }
+{
+    let numbers = [header.version, header.pages, header.workers];
+    match header.workers {
+        1 => words_of(
+            alloc,
+            b"",
+            "version #, # physical pages of 4096 bytes, # worker",
+            &numbers,
+        ),
+        _ => words_of(
+            alloc,
+            b"",
+            "version #, # physical pages of 4096 bytes, # workers",
+            &numbers,
+        ),
+    }
+}
+
+/// Returns words with the numbers of the first and the last line after them, if there are lines.
+#[tactic(auto, unfolding(crate::specs::Notes::lines_text))]
+fn add_lines(
+    alloc: Global,
+    words: Vec<u8>,
+    lines: Option<(u32, u32)>,
+) -> Result<Vec<u8>, AllocError>
+    ensures { IfOk result (λ all. all.items ≡ words.items ++ lines_text lines) }
+{
+    match lines {
+        None => Ok(words),
+        Some((first, last)) => {
+            words_of(
+                alloc,
+                words.as_slice(),
+                "; plan lines # to #",
+                &[first, last],
+            )
+        }
+    }
+}
+
+/// Appends words at the place of a label. If an allocation fails, the text records it.
+pub(crate) fn add_words(text: &mut Text, label: Label, words: &[u8])
+    ensures { DrawsWords text.old text.new words.now }
+{
+    let place = label.place_of(words);
+    match copy_of(text.alloc(), words) {
+        Ok(copy) => text.add_shape(&Shape::Words(place, copy)),
+        Err(_) => text.refuse(),
+    }
+}
+
+/// Returns a copy of words.
+fn copy_of(alloc: Global, words: &[u8]) -> Result<Vec<u8>, AllocError>
+    ensures { IfOk result (λ copy. copy.items ≡ words.now) }
+{
+    let mut copy = Vec::new(alloc);
+    copy.extend_from_slice(words)?;
+    Ok(copy)
+}
