@@ -1,5 +1,6 @@
 pub mod Captions
 pub mod Draws
 pub mod Frames
+pub mod Notes
 pub mod Painters
 pub mod Points

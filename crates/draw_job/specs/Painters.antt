@@ -9,4 +9,4 @@ next_measured painter = painter.measure
 
 -- the number of the line that the drawing painter is shown next
 abbrev pub next_drawn : Drawing → ℕ
-next_drawn painter = painter.picture
+next_drawn painter = painter.picture.next

@@ -1,6 +1,9 @@
 //! The two painters of a picture: one measures it, and the other draws it.
-ghost use Rattle.std.specs.Prelude.{◌≡◌, [], IfOk, IfSome, Some, codes, false, length};
+ghost use Rattle.std.specs.Prelude.{◌≡◌, ◌≤◌, [], IfOk, IfSome, Some, codes, false, length};
+ghost use Rattle.draw_job.specs.Notes.{note_of_job, version_number};
 ghost use Rattle.draw_job.specs.Painters.{next_drawn, next_measured};
+ghost use Rattle.draw_picture.specs.Cards.{IsHead};
+ghost use Rattle.draw_picture.specs.Notes.{file_title, lines_between, shown_title};
 ghost use Rattle.draw_svg.specs.Begins.{Begins};
 
 use crate::points::{Painter, Point};
@@ -35,6 +38,7 @@ impl Measuring {
     }
 
     /// Returns the picture of the measured job, with no point drawn yet. Its first point is the one after line `first`.
+    /// The note after its title has the numbers of the lines from `first` to the last line that was measured.
     pub fn picture(
         self,
         alloc: Global,
@@ -42,7 +46,12 @@ impl Measuring {
         options: &DrawOptions<'_>,
         first: usize,
     ) -> Result<Picture, AllocError>
-        ensures { IfOk result (λ picture. picture ≡ first) }
+        requires { next_measured self ≤ 4294967296 }
+        ensures next { IfOk result (λ picture. picture.next ≡ first) }
+        ensures title { IfOk result (λ picture. picture.title ≡ file_title options.now.title.now) }
+        ensures name { IfOk result (λ picture. picture.name ≡ shown_title options.now.title.now) }
+        ensures note { IfOk result
+            (λ picture. Begins (note_of_job job.now (lines_between first (next_measured self))) picture.note) }
     {
         let columns = match options.columns {
             0 => None,
@@ -58,7 +67,11 @@ impl Measuring {
 }
 
 /// The data of a job's header.
-fn header_of(job: &Job) -> Header {
+fn header_of(job: &Job) -> Header
+    ensures version { result.version ≡ version_number job.now.version }
+    ensures pages { result.pages ≡ job.now.pages }
+    ensures workers { result.workers ≡ length job.now.scripts }
+{
     let version = match job.version {
         Version::One => 1,
         Version::Two => 2,
@@ -87,8 +100,9 @@ pub(crate) struct Drawing {
 impl Drawing {
     /// Creates a painter that draws this picture. Adds the text before the first frame to `text`.
     pub fn new(picture: Picture, text: &mut Text) -> Drawing
-        ensures next { next_drawn result ≡ picture }
+        ensures next { next_drawn result ≡ picture.next }
         ensures begins { text.old ≡ Some [] → IfSome text.new (Begins (codes "<svg")) }
+        ensures head { text.old ≡ Some [] → IfSome text.new (IsHead picture) }
     {
         picture.head(text);
         Drawing { picture }

@@ -1,7 +1,7 @@
 //! The picture of a job, from its file to an SVG file.
 ghost use Rattle.std.specs.Prelude.{◌≡◌, ◌⊎◌, ◌≤◌, Err, false, true, IfErr, IfOk, OnOk, length, min};
 ghost use Rattle.std.specs.Io.KnownBytes.{Keeps};
-ghost use Rattle.draw_job.specs.Draws.{AreShown, HasDrawn, HasNotDrawn};
+ghost use Rattle.draw_job.specs.Draws.{AreShown, HasDrawn, HasDrawnJob, HasDrawnPicture, HasNotDrawn};
 ghost use Rattle.draw_job.specs.Painters.{next_measured};
 ghost use Rattle.draw_job.specs.Points.{next_shown};
 
@@ -41,7 +41,9 @@ pub fn draw<I: Source, O: Sink>(
     ensures ok { OnOk result ((I.has_failed input.new ≡ false) × (O.has_failed output.new ≡ false)) }
     ensures none { IfErr result
         (HasNotDrawn (I.remaining input.old) (I.remaining input.new) (O.written output.old) (O.written output.new)) }
-    ensures drawn { OnOk result (HasDrawn (O.written output.old) (O.written output.new)) }
+    ensures drawn { OnOk result
+        (HasDrawnJob options.now.title.now options.now.from options.now.to (I.remaining input.old)
+        (I.remaining input.new) (O.written output.old) (O.written output.new)) }
     ensures read { result ≡ Err ReplayError.Read → I.has_failed input.new ≡ true }
     ensures write { result ≡ Err ReplayError.Write → O.has_failed output.new ≡ true }
     ensures memory { result ≡ Err ReplayError.Memory → O.has_failed output.new ≡ false }
@@ -74,7 +76,9 @@ fn paint<O: Sink>(
 ) -> Result<Shown, ReplayError>
     requires { O.has_failed output.old ≡ false }
     ensures shown { IfOk result (AreShown job.now options.now.from options.now.to) }
-    ensures drawn { OnOk result (HasDrawn (O.written output.old) (O.written output.new)) }
+    ensures drawn { OnOk result
+        (HasDrawn options.now.title.now options.now.from options.now.to job.now (O.written output.old)
+        (O.written output.new)) }
     ensures ok { OnOk result (O.has_failed output.new ≡ false) }
     ensures memory { result ≡ Err ReplayError.Memory → O.has_failed output.new ≡ false }
     ensures write { result ≡ Err ReplayError.Write → O.has_failed output.new ≡ true }
@@ -122,10 +126,10 @@ fn draw_all<O: Sink>(
 ) -> Result<usize, ReplayError>
     requires some { 1 ≤ from }
     requires few { to ≤ 1048576 }
-    requires next { picture ≡ from }
+    requires next { picture.next ≡ from }
     requires fresh { O.has_failed output.old ≡ false }
     ensures shown { IfOk result (λ next. next ≡ next_shown from (min to (length job.now.plan))) }
-    ensures drawn { OnOk result (HasDrawn (O.written output.old) (O.written output.new)) }
+    ensures drawn { OnOk result (HasDrawnPicture picture (O.written output.old) (O.written output.new)) }
     ensures ok { OnOk result (O.has_failed output.new ≡ false) }
     ensures write { result ≡ Err ReplayError.Write → O.has_failed output.new ≡ true }
     ensures memory { result ≡ Err ReplayError.Memory → O.has_failed output.new ≡ false }

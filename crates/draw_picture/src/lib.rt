@@ -7,8 +7,8 @@
 //! a `Measure`, and the second time to the `Picture` that is made from the measure. The picture appends its text to a
 //! buffer.
 //!
-//! `notes` writes a picture's title, and the note after it. These modules measure a card: `parts`, `layout`, `lettering` and `pills`. These modules draw it: `pages`,
-//! `objects`, `occupancy`, `mesh_bar`, `arrows` and `legend`.
+//! These modules measure a card: `parts`, `layout`, `lettering` and `pills`. These modules draw it: `pages`,
+//! `objects`, `occupancy`, `mesh_bar`, `arrows` and `legend`. `notes` writes a picture's title, and the note after it.
 #![tactic(auto)]
 
 mod alike;
