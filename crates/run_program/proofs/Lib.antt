@@ -3,6 +3,7 @@ pub mod ExploreEnds
 pub mod FirstWords
 pub mod Messages
 mod OrderEnds
+mod OrderStops
 pub mod SavingsEnds
 pub mod ThreadEnds
 mod TwoClauses

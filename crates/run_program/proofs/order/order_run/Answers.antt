@@ -15,7 +15,8 @@ returns-in-Err g c =
     (g.O.Sink.has_failed run.output) (g.E.Sink.has_failed c.tell.new.sink) in
     let told = subst (λ (text : List ℕ). HasTold after.errors_failed before.told after.told text) (c.as_slice.ensures.value ∙ c.check_line_of.ensures) c.tell.ensures in
     subst (λ (s : Seen). EndsOrder c.args.most s after c.status_of_check.result) c.devices.view_is
-    (order_stops c.args.most before after c.in-Err.error c.status_of_check.result c.status_of_check.ensures told)
+    (order_stops c.args.most before after c.in-Err.error c.status_of_check.result c.status_of_check.ensures c.in-Err.ensures.stopped
+    c.in-Err.ensures.failed told)
 
 pub returns-in-Ok : goal.returns-in-Ok
 returns-in-Ok g c =
