@@ -1,5 +1,5 @@
 -- What a run of scripts in threads has read and written if it ends or stops, and what it prints then.
-use Rattle.std.specs.Prelude.{◌≡◌, ℕ, ◌<◌, ◌≤◌, Bool, false, List, [], Option, codes, length}
+use Rattle.std.specs.Prelude.{◌≡◌, ℕ, ◌<◌, ◌≤◌, Bool, false, List, [], Option, codes, length, slice_index_or}
 use Rattle.std.specs.Io.KnownBytes.{Appends, Keeps}
 use Rattle.std.specs.List.{sum_by}
 use Rattle.model_jobs.specs.Jobs.{Job}
@@ -7,7 +7,7 @@ use Rattle.model_memory.specs.Memory.{Memory, empty_memory}
 use Rattle.model_memory.specs.Plain.{Entry}
 use Rattle.model_heap.specs.Table.{empty_table}
 use Rattle.model_words.specs.declared.commands.Command.{Command}
-use Rattle.mesh_mutator.specs.Book.{Book, memory_of_book, table_of_book}
+use Rattle.mesh_mutator.specs.Book.{Book, memory_in, memory_of_book, table_of_book}
 use Rattle.run_program.specs.Runs.{EndsBy, HasFailed, error_text}
 use Rattle.run_program.specs.Seen.{Seen}
 use Rattle.run_program.specs.Status.{status_of_error}
@@ -18,7 +18,9 @@ use Rattle.run_program.specs.declared.printed.Printed.TheVariants.{Answers, Hist
 use Rattle.run_program.specs.declared.threads_error.ThreadsError.{ThreadsError}
 use Rattle.run_program.specs.declared.threads_error.ThreadsError.TheVariants.{Replay, TooShort, Thread, Run}
 use Rattle.mesh_shared.specs.Runs.{HasRun}
+use Rattle.mesh_shared.specs.declared.mesher.Meshed.{Meshed}
 use Rattle.mesh_shared.specs.declared.plan.MeshPlan.{MeshPlan}
+use Rattle.mesh_shared.specs.declared.threads.Ran.{Ran}
 use Rattle.mesh_shared.specs.declared.stops.RunError.{RunError}
 use Rattle.mesh_shared.specs.declared.stops.RunError.TheVariants.{Memory as RunMemory, Thread as RunThread, History, Finish}
 use Rattle.mesh_text.specs.Histories.{history_text}
@@ -101,6 +103,18 @@ pub record IsPlanOf (args : ThreadsArgs) (plan : MeshPlan) : Type 0 where
   pub searchers : plan.workers ≡ args.workers
   pub words : plan.words.items ≡ words_of args.seed args.rounds
   pub meshers : plan.meshers ≡ args.meshers
+
+-- as many meshers as were asked for reported in the order of their numbers, and each reported all rounds that were
+-- asked for
+pub record HaveMeshed (args : ThreadsArgs) (told : List Meshed) : Type 0 where
+  pub many : length told ≡ args.meshers
+  pub each : (q : ℕ) (d : Meshed) → q < args.meshers
+      → ((slice_index_or told q d).number ≡ q) × ((slice_index_or told q d).rounds ≡ args.rounds)
+
+-- the scripts were run to their ends, and the meshers that were asked for made all rounds that were asked for
+pub record IsRunOf (scripts : List (List Command)) (args : ThreadsArgs) (ran : Ran) : Type 0 where
+  pub run : HasRun scripts ran.ended.history.items (memory_in ran.ended.heap ran.ended.roots)
+  pub meshed : HaveMeshed args ran.meshers.items
 
 -- the book is empty and has the job's number of pages. Its journal is empty and has room for `job.history` entries
 pub record IsBookOf (job : Job) (book : Book) : Type 0 where

@@ -4,13 +4,11 @@ ghost use Rattle.std.specs.Io.KnownBytes.{Appends};
 ghost use Rattle.std.specs.List.{All};
 ghost use Rattle.model_jobs.specs.Texts.{ended};
 ghost use Rattle.model_words.specs.Commands.{IsInRange};
-ghost use Rattle.mesh_mutator.specs.Book.{memory_in};
 ghost use Rattle.run_program.specs.Runs.{HasTold, IsSound};
 ghost use Rattle.run_program.specs.Seen.{seen};
-ghost use Rattle.run_program.specs.Threads.{EndsThreads, HasFailedRun, HasRoom, HasStoppedRun, HasWrittenRun, IsBookOf, IsNoRun, IsPlanOf, IsTextOfRun, command_count, text_of_run, threads_status, threads_text};
+ghost use Rattle.run_program.specs.Threads.{EndsThreads, HasFailedRun, HasRoom, HasStoppedRun, HasWrittenRun, IsBookOf, IsNoRun, IsPlanOf, IsRunOf, IsTextOfRun, command_count, text_of_run, threads_status, threads_text};
 ghost use Rattle.run_program.specs.declared.printed.Printed.{Printed};
 ghost use Rattle.run_program.specs.declared.threads_error.ThreadsError.{ThreadsError};
-ghost use Rattle.mesh_shared.specs.Runs.{HasRun};
 ghost use Rattle.text_devices.specs.Transfer.{AppendsBeginning};
 ghost use Rattle.text_devices.specs.declared.faults.ReplayError.{ReplayError};
 
@@ -20,7 +18,7 @@ use crate::runs::{status_of, tell};
 use crate::shuffle_words::words;
 use crate::{Devices, ThreadsArgs, ThreadsError};
 use mesh_mutator::{Book, Entry};
-use mesh_shared::{Ended, MeshPlan, NoGate, run_threads};
+use mesh_shared::{Ended, Limits, MeshPlan, NoGate, Ran, run_within};
 use mesh_text::{Command, Commands, Job, Scripts, history_lines, read_job, recorded_history};
 use run_command_line::status::{DONE, FAILED, FAULTY};
 use std::alloc::{AllocError, Global};
@@ -144,7 +142,8 @@ fn run_job<R: Threads + Wait + Sync>(
     if !has_room(&job.scripts, job.history) {
         return Err(ThreadsError::TooShort);
     }
-    let ended = run_scripts(rt, alloc, job, args)?;
+    let ran = run_scripts(rt, alloc, job, args)?;
+    let ended = ended_of(ran, job, args);
     let workers = job.scripts.count() as u32;
     let text = text_of(alloc, printed, workers, ended.history.as_slice())?;
     Ok(text)
@@ -166,15 +165,24 @@ fn text_of(
     }
 }
 
-/// Runs a job's scripts on a fresh book, while meshers do what the arguments ask for.
+/// Returns the heap, the root cells and the history of a run. States by its requirement that the run was one of the
+/// job's scripts with the meshers and the rounds of the arguments.
+fn ended_of(ran: Ran, job: &Job, args: &ThreadsArgs) -> Ended
+    requires { IsRunOf job.now.scripts args.now ran }
+    ensures { result ≡ ran.ended }
+{
+    ran.ended
+}
+
+/// Runs a job's scripts on a fresh book, while meshers do what the arguments ask for. Also returns what each mesher
+/// did.
 fn run_scripts<R: Threads + Wait + Sync>(
     rt: &R,
     alloc: Global,
     job: &Job,
     args: &ThreadsArgs,
-) -> Result<Ended, ThreadsError>
-    ensures ended { IfOk result
-        (λ ended. HasRun job.now.scripts ended.history.items (memory_in ended.heap ended.roots)) }
+) -> Result<Ran, ThreadsError>
+    ensures ran { IfOk result (IsRunOf job.now.scripts args.now) }
     ensures none { HasRoom job.now → IfErr result (IsNoRun job.now) }
 {
     let plan = plan_of(alloc, args)?;
@@ -192,19 +200,18 @@ fn run_book<R: Threads + Wait + Sync>(
     args: &ThreadsArgs,
     plan: &MeshPlan,
     scripts: &[&[Command]],
-) -> Result<Ended, ThreadsError>
+) -> Result<Ran, ThreadsError>
     requires plan { IsPlanOf args.now plan.now }
     requires scripts { map (λ script. script.now) scripts.now ≡ job.now.scripts }
     requires some { 1 ≤ length scripts.now }
     requires few { length scripts.now ≤ 64 }
     requires range { All (λ script. All IsInRange script.now) scripts.now }
-    ensures ended { IfOk result
-        (λ ended. HasRun job.now.scripts ended.history.items (memory_in ended.heap ended.roots)) }
+    ensures ran { IfOk result (IsRunOf job.now.scripts args.now) }
     ensures none { HasRoom job.now → IfErr result (IsNoRun job.now) }
 {
     let book = book_of(alloc, job)?;
-    let ended = run_threads(rt, alloc, book, scripts, plan, &NoGate)?;
-    Ok(ended)
+    let ran = run_within(rt, alloc, book, scripts, plan, Limits::none(), &NoGate)?;
+    Ok(ran)
 }
 
 /// A fresh book with a job's sizes.
