@@ -1,6 +1,7 @@
 -- How a drawing and a live session end. A failure of the output is never reported as out of memory.
-use Rattle.std.specs.Prelude.{◌≡◌, ℕ, Bool, false}
-use Rattle.draw_job.specs.Draws.{HasDrawn, HasNotDrawn}
+use Rattle.std.specs.Prelude.{◌≡◌, ℕ, Bool, List, false}
+use Rattle.draw_job.specs.Draws.{HasDrawnJob, HasNotDrawn}
+use Rattle.run_command_line.specs.declared.draw_args.DrawArgs.{DrawArgs}
 use Rattle.run_live.specs.Runs.{HasLived, HasStopped}
 use Rattle.run_live.specs.declared.sizes.Sizes.{Sizes}
 use Rattle.run_program.specs.Runs.{EndsBy, HasFailed, error_text}
@@ -16,10 +17,11 @@ HasFailedAlone input output Read = HasFailed input output Read
 HasFailedAlone input output Write = HasFailed input output Write
 HasFailedAlone input output (Text fault) = HasFailed input output (Text fault)
 
--- how a drawing ends. If the status is 0, an SVG file was written
-abbrev pub EndsDraw : Seen → Seen → ℕ → Type 0
-EndsDraw before after status =
-    EndsBy status_of_error error_text HasFailedAlone (λ left left' written written'. HasDrawn written written') HasNotDrawn before after status
+-- how a drawing ends. If the status is 0, a job was read and its picture was written, with this name in its titles and
+-- the lines of the plan that the arguments ask for
+abbrev pub EndsDraw : List ℕ → DrawArgs → Seen → Seen → ℕ → Type 0
+EndsDraw name args before after status =
+    EndsBy status_of_error error_text HasFailedAlone (HasDrawnJob name args.from args.to) HasNotDrawn before after status
 
 -- how a live session ends
 abbrev pub EndsLive : Sizes → Seen → Seen → ℕ → Type 0

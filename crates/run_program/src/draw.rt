@@ -12,6 +12,8 @@ use text_devices::{Sink, Source};
 /// Draws the plan of the job in the input, and writes the picture to the output. If the run stops with an error, writes
 /// the error's line to `errors`. Returns the exit status.
 ///
+/// `title` is the name of the job file. The picture shows the lines of the plan from `args.from` to `args.to`.
+///
 /// The exit status and the line in `errors` are those of `replay_run`. Nothing is written to the output if the input
 /// failed or its text has a fault.
 pub fn draw_run<I: Source, O: Sink, E: Sink>(
@@ -21,7 +23,7 @@ pub fn draw_run<I: Source, O: Sink, E: Sink>(
     devices: &mut Devices<I, O, E>,
 ) -> u8
     requires { IsSound devices.old }
-    ensures { EndsDraw devices.old devices.new result }
+    ensures { EndsDraw title.now args.now devices.old devices.new result }
 {
     let options = options_of(title, args);
     let outcome = draw(alloc, &mut devices.input, &mut devices.output, &options);
