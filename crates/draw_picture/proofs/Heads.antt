@@ -1,12 +1,10 @@
 -- What a picture's text has before its first frame.
-use Rattle.std.proofs.Common.{◌≡◌, ℕ, List, ◌++◌, [], Option, Some, None, IfSome, append_assoc, inl, inr, ◌⊎◌, sym}
-use Rattle.draw_picture.specs.Cards.{DrawsTitle, HasWords, IsHead}
+use Rattle.std.proofs.Common.{◌≡◌, ℕ, List, ◌++◌, [], Option, Some, None, IfSome, append_assoc, inl, inr, ◌⊎◌}
+use Rattle.draw_picture.specs.Cards.{DrawsTitle, IsHead}
 use Rattle.draw_picture.specs.Pictures.{Shown}
-use Rattle.draw_svg.specs.Begins.{Begins}
 use Rattle.draw_svg.specs.Files.{root_text}
 use Rattle.draw_svg.specs.Shapes.{words_text}
 use Rattle.draw_svg.specs.Texts.{Adds}
-use Rattle.draw_svg.specs.declared.shapes.Label.{Label}
 use Rattle.draw_svg.proofs.Adding.{adds_both, adds_to}
 
 -- a text that isn't known any more has got any words

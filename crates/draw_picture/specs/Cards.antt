@@ -1,5 +1,5 @@
 -- What a picture appends to its text.
-use Rattle.std.specs.Prelude.{◌≡◌, ◌⊎◌, ◌++◌, ◌∷◌, ℕ, List, Option, None, codes}
+use Rattle.std.specs.Prelude.{◌≡◌, ◌++◌, ◌∷◌, ℕ, List, Option, None, codes}
 use Rattle.draw_picture.specs.Pictures.{Shown}
 use Rattle.draw_svg.specs.Begins.{Begins}
 use Rattle.draw_svg.specs.Files.{root_text}
