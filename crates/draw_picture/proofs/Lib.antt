@@ -1,1 +1,2 @@
+mod Captions
 mod Heads

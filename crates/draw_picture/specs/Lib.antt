@@ -1,3 +1,4 @@
 pub mod Cards
+pub mod Gatherings
 pub mod Notes
 pub mod Pictures

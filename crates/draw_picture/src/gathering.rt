@@ -1,5 +1,6 @@
 //! The lines above a frame, and whether a new frame is to be drawn.
-ghost use Rattle.std.specs.Prelude.{◌≡◌, ◌++◌, IfOk, OnOk, map};
+ghost use Rattle.std.specs.Prelude.{◌≡◌, ◌++◌, [], IfOk, OnOk, map};
+ghost use Rattle.draw_picture.specs.Gatherings.{EndsWith, EndsWithLine, IsCaptionOf};
 ghost use Rattle.draw_picture.specs.Notes.{cut_text, plain_byte};
 
 use crate::alike::{are_alike, copied, empty_frame, shows_nothing};
@@ -76,7 +77,9 @@ impl Gathering {
 
     /// Adds a line with its answer. If the line repeats the last caption, the line is merged into that caption. The
     /// only error is an allocation failure.
-    pub fn add(&mut self, line: &Line<'_>) -> Result<(), AllocError> {
+    pub fn add(&mut self, line: &Line<'_>) -> Result<(), AllocError>
+        ensures { OnOk result (EndsWithLine self.new.captions.items line.now) }
+    {
         let mut caption = caption_of(self.alloc, line)?;
         if let Some(last) = self.captions.last_mut() {
             if repeats(last, &caption) {
@@ -91,7 +94,9 @@ impl Gathering {
 
     /// Appends a caption. If there are `MAX_CAPTIONS` captions already, first removes the last of them and counts its
     /// lines as hidden. The only error is an allocation failure.
-    fn add_behind(&mut self, caption: Caption) -> Result<(), AllocError> {
+    fn add_behind(&mut self, caption: Caption) -> Result<(), AllocError>
+        ensures { OnOk result (EndsWith self.new.captions.items caption) }
+    {
         if self.captions.len() >= MAX_CAPTIONS {
             if let Some(left_out) = self.captions.pop() {
                 self.hidden = self.hidden.saturating_add(left_out.times);
@@ -120,7 +125,10 @@ impl Gathering {
 
     /// Records that `frame` has been shown with the gathered lines above it, and discards these lines. The only error
     /// is an allocation failure.
-    pub fn shown(&mut self, frame: &Frame) -> Result<(), AllocError> {
+    pub fn shown(&mut self, frame: &Frame) -> Result<(), AllocError>
+        ensures captions { OnOk result (self.new.captions.items ≡ []) }
+        ensures hidden { OnOk result (self.new.hidden ≡ 0) }
+    {
         self.last = copied(frame)?;
         self.begun = true;
         self.captions.clear();
@@ -158,7 +166,9 @@ fn first_word(answer: &[u8]) -> &[u8] {
 }
 
 /// Returns a caption of one line. The only error is an allocation failure.
-fn caption_of(alloc: Global, line: &Line<'_>) -> Result<Caption, AllocError> {
+fn caption_of(alloc: Global, line: &Line<'_>) -> Result<Caption, AllocError>
+    ensures { IfOk result (λ caption. IsCaptionOf caption line.now) }
+{
     Ok(Caption {
         from: line.number,
         to: line.number,
