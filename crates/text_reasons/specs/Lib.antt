@@ -1,0 +1,3 @@
+pub mod Quotes
+pub mod Reasons
+pub mod Sentences
