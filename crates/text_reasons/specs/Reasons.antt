@@ -1,10 +1,7 @@
 -- The kind of fault that a reason is for.
-use Rattle.std.specs.Prelude.{◌≡◌, ℕ, List, ◌++◌}
+use Rattle.std.specs.Prelude.{ℕ}
 use Rattle.model_words.specs.declared.faults.FaultKind.{FaultKind}
 use Rattle.model_words.specs.declared.faults.FaultKind.TheVariants.{TooLong, Trailing, LongLine, Cut as CutKind, Byte as ByteKind, Word as WordKind, Number as NumberKind, Hex as HexKind}
-use Rattle.model_words.specs.declared.faults.TextFault.{TextFault}
-use Rattle.text_reasons.specs.Sentences.{reason_text}
-use Rattle.text_reasons.specs.declared.kinds.TextKind.{TextKind}
 use Rattle.text_reasons.specs.declared.reason.ByteReason.{ByteReason}
 use Rattle.text_reasons.specs.declared.reason.ByteReason.TheVariants.{CarriageReturn, Tab, Other}
 use Rattle.text_reasons.specs.declared.reason.Reason.{Reason}
@@ -27,15 +24,7 @@ IsPlain LongLine = Unit {0}
 IsPlain kind = ⊥
 
 -- the byte that may not stand in a line
-abbrev pub byte_in : ByteReason → ℕ
-byte_in CarriageReturn = 13
-byte_in Tab = 9
-byte_in (Other byte) = byte
-
--- the text of a reason was appended that is for a fault of this kind. If the kind has no reasons of its own, it is the
--- general one
-pub record HasAddedReason (old new : List ℕ) (wanted : TextKind) (fault : TextFault) : Type 0 where
-  pub reason : Reason
-  pub appended : new ≡ old ++ reason_text reason
-  pub kind : kind_of reason ≡ fault.kind
-  pub plain : IsPlain fault.kind → reason ≡ General wanted fault.kind
+abbrev pub byte_of : ByteReason → ℕ
+byte_of CarriageReturn = 13
+byte_of Tab = 9
+byte_of (Other byte) = byte

@@ -1,14 +1,14 @@
 //! The reasons for the faults BYTE and CUT.
 ghost use Rattle.std.specs.Prelude.{◌≡◌, false, IfSome};
 ghost use Rattle.text_fields.specs.JobFiles.{is_printable};
-ghost use Rattle.text_reasons.specs.Reasons.{byte_in};
+ghost use Rattle.text_reasons.specs.Reasons.{byte_of};
 
 use crate::places::{Line, Section};
 use crate::{ByteReason, CutReason};
 
 /// Returns the first byte of the line that may not stand in a line. Returns `None` if there is no such byte.
 pub(crate) fn byte_reason(line: &[u8]) -> Option<ByteReason>
-    ensures { IfSome result (λ reason. is_printable (byte_in reason) ≡ false) }
+    ensures { IfSome result (λ reason. is_printable (byte_of reason) ≡ false) }
 {
     for byte in line {
         if !is_printable(*byte) {
@@ -27,7 +27,7 @@ pub(crate) fn is_printable(byte: u8) -> bool
 
 /// The reason for a byte that may not stand in a line.
 fn reason_for(byte: u8) -> ByteReason
-    ensures { byte_in result ≡ byte }
+    ensures { byte_of result ≡ byte }
 {
     match byte {
         b'\r' => ByteReason::CarriageReturn,

@@ -1,4 +1,7 @@
 //! The reasons for the faults NUMBER and HEX: the first field of a line that is misspelt.
+ghost use Rattle.std.specs.Prelude.{IfSome};
+ghost use Rattle.text_reasons.specs.Truths.{IsSo};
+
 use crate::entry_words::{LineFields, Part, arrow_split, entry_fields, part_of};
 use crate::grammar::{
     ANSWERS, COMMANDS_OF_TWO, FIRST_WORKER_LINE, HISTORY_LINE, JOURNAL_LINE, MESH_LINE, PAGES_LINE,
@@ -12,7 +15,9 @@ use text_fields::lines::fields_up_to;
 use text_fields::numbers::number;
 
 /// Returns why the first misspelt field of the line is misspelt. Returns `None` if no such field is found.
-pub(crate) fn field_reason<'a>(line: &Line<'a>) -> Option<Reason<'a>> {
+pub(crate) fn field_reason<'a>(line: &Line<'a>) -> Option<Reason<'a>>
+    ensures { IfSome result (λ reason. IsSo reason) }
+{
     match line.place.section {
         Section::Entries(kind) => entry_reason(&line.place, kind, line.bytes),
         _ => line_reason(&line.place, line.bytes),
@@ -20,7 +25,9 @@ pub(crate) fn field_reason<'a>(line: &Line<'a>) -> Option<Reason<'a>> {
 }
 
 /// Returns the reason for a line of a job, or for the first line of a history.
-fn line_reason<'a>(place: &Place, line: &'a [u8]) -> Option<Reason<'a>> {
+fn line_reason<'a>(place: &Place, line: &'a [u8]) -> Option<Reason<'a>>
+    ensures { IfSome result (λ reason. IsSo reason) }
+{
     let fields: LineFields<'a> = fields_up_to(line).ok()?;
     let part = part_of(fields.as_slice())?;
     let form = form_at(place, part.word)?;
@@ -44,7 +51,9 @@ fn form_at(place: &Place, word: &[u8]) -> Option<Form> {
 }
 
 /// Returns that a history of this version isn't read here, if this can be the fault.
-fn version_reason<'a>(place: &Place, part: &Part<'_, 'a>) -> Option<Reason<'a>> {
+fn version_reason<'a>(place: &Place, part: &Part<'_, 'a>) -> Option<Reason<'a>>
+    ensures { IfSome result (λ reason. IsSo reason) }
+{
     match (place.section, part.fields) {
         (Section::Head, [version]) => Some(Reason::Number(
             Spelt(VERSION, *version),
@@ -55,13 +64,19 @@ fn version_reason<'a>(place: &Place, part: &Part<'_, 'a>) -> Option<Reason<'a>> 
 }
 
 /// Returns the reason for an entry.
-fn entry_reason<'a>(place: &Place, kind: EntryKind, line: &'a [u8]) -> Option<Reason<'a>> {
+fn entry_reason<'a>(place: &Place, kind: EntryKind, line: &'a [u8]) -> Option<Reason<'a>>
+    ensures { IfSome result (λ reason. IsSo reason) }
+{
     let fields = entry_fields(kind, line)?;
     let (before, behind) = arrow_split(fields.as_slice())?;
     let limits = Limits::at(place).with_begin(begin_in(before));
-    first_reason(kind.before_command(), before, &limits)
-        .or(part_reason(kind.commands(), kind.command_in(before), &limits))
-        .or(part_reason(ANSWERS, part_of(behind), &limits))
+    if let Some(reason) = first_reason(kind.before_command(), before, &limits) {
+        return Some(reason);
+    }
+    if let Some(reason) = part_reason(kind.commands(), kind.command_in(before), &limits) {
+        return Some(reason);
+    }
+    part_reason(ANSWERS, part_of(behind), &limits)
 }
 
 /// The time at which a call began, if the fields before `->` have one.
@@ -77,14 +92,18 @@ fn part_reason<'a>(
     known: Vocabulary,
     part: Option<Part<'_, 'a>>,
     limits: &Limits,
-) -> Option<Reason<'a>> {
+) -> Option<Reason<'a>>
+    ensures { IfSome result (λ reason. IsSo reason) }
+{
     let part = part?;
     let form = known.form_of(part.word)?;
     first_reason(form.1, part.fields, limits)
 }
 
 /// Returns why the first misspelt field of these is misspelt.
-fn first_reason<'a>(wanted: &[Field], spelt: &[&'a [u8]], limits: &Limits) -> Option<Reason<'a>> {
+fn first_reason<'a>(wanted: &[Field], spelt: &[&'a [u8]], limits: &Limits) -> Option<Reason<'a>>
+    ensures { IfSome result (λ reason. IsSo reason) }
+{
     for (place, text) in spelt.iter().enumerate() {
         let field = field_at(wanted, place)?;
         let range = field.1.range(limits);

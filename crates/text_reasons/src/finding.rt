@@ -1,6 +1,8 @@
 //! Finds the reason for a fault.
-ghost use Rattle.std.specs.Prelude.{◌≡◌, ◌↔◌, IsTrue, OnOk};
-ghost use Rattle.text_reasons.specs.Reasons.{HasAddedReason, IsPlain, kind_of};
+ghost use Rattle.std.specs.Prelude.{◌≡◌, ◌↔◌, IfSome, IsTrue, OnOk};
+ghost use Rattle.text_reasons.specs.Added.{HasAddedReason};
+ghost use Rattle.text_reasons.specs.Reasons.{IsPlain, kind_of};
+ghost use Rattle.text_reasons.specs.Truths.{IsSo};
 ghost use Rattle.text_reasons.specs.declared.reason.Reason.{Reason};
 
 use crate::blanks::blank_reason;
@@ -32,6 +34,7 @@ pub fn add_reason(
 pub fn reason_of(source: &[u8], wanted: TextKind, fault: TextFault) -> Reason<'_>
     ensures kind { kind_of result ≡ fault.kind }
     ensures plain { IsPlain fault.kind → result ≡ Reason.General wanted fault.kind }
+    ensures so { IsSo result }
 {
     match fault.kind {
         FaultKind::TooLong | FaultKind::Trailing | FaultKind::LongLine => {
@@ -43,7 +46,8 @@ pub fn reason_of(source: &[u8], wanted: TextKind, fault: TextFault) -> Reason<'_
 
 /// Does the same as `reason_of`, for a fault whose reason lies in the bytes of its line.
 fn reason_in(source: &[u8], wanted: TextKind, fault: TextFault) -> Reason<'_>
-    ensures { kind_of result ≡ fault.kind }
+    ensures kind { kind_of result ≡ fault.kind }
+    ensures so { IsSo result }
 {
     match line_at(source, wanted, fault.line) {
         Some(line) => reason_for(&line, wanted, fault.kind),
@@ -53,7 +57,8 @@ fn reason_in(source: &[u8], wanted: TextKind, fault: TextFault) -> Reason<'_>
 
 /// Returns the reason for a fault of this kind in this line.
 fn reason_for<'a>(line: &Line<'a>, wanted: TextKind, kind: FaultKind) -> Reason<'a>
-    ensures { kind_of result ≡ kind }
+    ensures kind { kind_of result ≡ kind }
+    ensures so { IsSo result }
 {
     match found_in(line, kind) {
         Some(reason) if is_of_kind(&reason, kind) => reason,
@@ -69,7 +74,9 @@ fn is_of_kind(reason: &Reason<'_>, kind: FaultKind) -> bool
 }
 
 /// Returns a reason for a fault of this kind in this line, if one is found.
-fn found_in<'a>(line: &Line<'a>, kind: FaultKind) -> Option<Reason<'a>> {
+fn found_in<'a>(line: &Line<'a>, kind: FaultKind) -> Option<Reason<'a>>
+    ensures { IfSome result (λ reason. IsSo reason) }
+{
     match kind {
         FaultKind::Cut => Some(Reason::Cut(cut_reason(line)?)),
         _ if !line.is_ended => None,

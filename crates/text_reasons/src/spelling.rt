@@ -1,4 +1,8 @@
 //! What a field may spell, and why it is misspelt.
+ghost use Rattle.std.specs.Prelude.{◌≡◌, ◌≤◌, false, true, IfSome, length, slice_index};
+ghost use Rattle.text_reasons.specs.declared.spelling.Range.{Range};
+ghost use Rattle.text_reasons.specs.Truths.{IsNoNumber, IsRefused, IsSo, IsTrueOfHex, IsTrueOfNumber};
+
 use crate::places::{Place, Section};
 use crate::{Field, FieldKind, HexReason, NumberReason, Reason, Spelt};
 use mesh_class::class_of;
@@ -101,7 +105,9 @@ impl FieldKind {
 
 impl Range {
     /// Whether the text spells what is allowed.
-    pub(crate) fn allows(self, text: &[u8]) -> bool {
+    pub(crate) fn allows(self, text: &[u8]) -> bool
+        ensures { result ≡ false → IsRefused self text.now }
+    {
         match self {
             Range::Numbers(least, most) => number(text, least, most).is_ok(),
             Range::Class => is_class(text),
@@ -114,17 +120,29 @@ impl Range {
     }
 
     /// Returns why a field that doesn't spell what is allowed is misspelt.
-    pub(crate) fn reason(self, field: Field, text: &[u8]) -> Option<Reason<'_>> {
+    pub(crate) fn reason(self, field: Field, text: &[u8]) -> Option<Reason<'_>>
+        requires { IsRefused self text.now }
+        ensures { IfSome result (λ reason. IsSo reason) }
+    {
         let spelt = Spelt(field, text);
-        let number = |reason| Some(Reason::Number(spelt, reason));
         match self {
-            Range::Numbers(least, most) => number(decimal_reason(text, numbers(least, most))),
-            Range::Class => number(decimal_reason(text, NumberReason::Class)),
-            Range::Address => number(address_reason(text, NumberReason::Address)),
-            Range::WideAddress => number(address_reason(text, NumberReason::WideAddress)),
             Range::Bytes => Some(Reason::Hex(spelt, bytes_reason(text))),
             Range::Byte => Some(Reason::Hex(spelt, byte_reason(text))),
             Range::Word => None,
+            _ => Some(Reason::Number(spelt, self.number_reason(text))),
+        }
+    }
+
+    /// Returns why a field that spells no number, class or address that is allowed is misspelt.
+    fn number_reason(self, text: &[u8]) -> NumberReason
+        requires { IsRefused self text.now }
+        ensures { IsTrueOfNumber result text.now }
+    {
+        match self {
+            Range::Numbers(least, most) => decimal_reason(text, numbers(least, most, text)),
+            Range::Address => address_reason(text, NumberReason::Address),
+            Range::WideAddress => address_reason(text, NumberReason::WideAddress),
+            _ => decimal_reason(text, NumberReason::Class),
         }
     }
 }
@@ -137,8 +155,12 @@ fn is_class(text: &[u8]) -> bool {
     }
 }
 
-/// That a number isn't one of these.
-fn numbers(least: u64, most: u64) -> NumberReason {
+/// That the text isn't one of these numbers.
+fn numbers(least: u64, most: u64, text: &[u8]) -> NumberReason
+    requires { IsNoNumber least most text.now }
+    ensures { IsTrueOfNumber result text.now }
+{
+    let _ = text;
     if least == most {
         NumberReason::Only(least)
     } else {
@@ -147,7 +169,10 @@ fn numbers(least: u64, most: u64) -> NumberReason {
 }
 
 /// A leading zero, if this is what is wrong with a decimal number. Otherwise the other reason.
-fn decimal_reason(text: &[u8], otherwise: NumberReason) -> NumberReason {
+fn decimal_reason(text: &[u8], otherwise: NumberReason) -> NumberReason
+    requires { IsTrueOfNumber otherwise text.now }
+    ensures { IsTrueOfNumber result text.now }
+{
     if leads_zero(Base::Decimal, text) {
         NumberReason::LeadingZero
     } else {
@@ -156,7 +181,10 @@ fn decimal_reason(text: &[u8], otherwise: NumberReason) -> NumberReason {
 }
 
 /// A leading zero or a digit in upper case, if this is what is wrong with an address. Otherwise the other reason.
-fn address_reason(text: &[u8], otherwise: NumberReason) -> NumberReason {
+fn address_reason(text: &[u8], otherwise: NumberReason) -> NumberReason
+    requires { IsTrueOfNumber otherwise text.now }
+    ensures { IsTrueOfNumber result text.now }
+{
     if leads_zero(Base::Hex, text) {
         NumberReason::LeadingZero
     } else if has_upper_case(text) {
@@ -167,7 +195,9 @@ fn address_reason(text: &[u8], otherwise: NumberReason) -> NumberReason {
 }
 
 /// Whether the text is a number of this base with a zero in front.
-fn leads_zero(base: Base, text: &[u8]) -> bool {
+fn leads_zero(base: Base, text: &[u8]) -> bool
+    ensures { result ≡ true → (2 ≤ length text.now) × (slice_index text.now 0 ≡ 48) }
+{
     has_leading_zero(text) && base.value_of(text).is_some()
 }
 
@@ -192,7 +222,10 @@ fn no_digit_in(text: &[u8]) -> Option<u8> {
 }
 
 /// Why the text doesn't spell 1 to 32 bytes.
-fn bytes_reason(text: &[u8]) -> HexReason {
+fn bytes_reason(text: &[u8]) -> HexReason
+    requires { IsRefused Range.Bytes text.now }
+    ensures { IsTrueOfHex result text.now }
+{
     if text.len() % 2 == 1 {
         digits_reason(text, HexReason::Odd)
     } else {
@@ -201,12 +234,18 @@ fn bytes_reason(text: &[u8]) -> HexReason {
 }
 
 /// Why the text doesn't spell one byte.
-fn byte_reason(text: &[u8]) -> HexReason {
+fn byte_reason(text: &[u8]) -> HexReason
+    requires { IsRefused Range.Byte text.now }
+    ensures { IsTrueOfHex result text.now }
+{
     digits_reason(text, HexReason::OneByte)
 }
 
 /// What is wrong with the digits of a text, if something is. Otherwise the other reason.
-fn digits_reason(text: &[u8], otherwise: HexReason) -> HexReason {
+fn digits_reason(text: &[u8], otherwise: HexReason) -> HexReason
+    requires { IsTrueOfHex otherwise text.now }
+    ensures { IsTrueOfHex result text.now }
+{
     match no_digit_in(text) {
         Some(byte) => HexReason::NoDigit(byte),
         None if has_upper_case(text) => HexReason::UpperCase,
