@@ -30,6 +30,13 @@ impl<I: Source + Drop> Begun<I> {
         }
     }
 
+    /// Returns the source, from which the bytes that were inspected but not read are lost.
+    pub fn into_inner(self) -> I
+        ensures { result ≡ self.inner }
+    {
+        self.inner
+    }
+
     /// Whether the text begins with `bytes`, which should have ten bytes. If `bytes` has another length, the result may
     /// be `false` although the text begins with `bytes`. The call consumes nothing of the text.
     ///

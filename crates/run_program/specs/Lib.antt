@@ -2,7 +2,9 @@ pub mod Checks
 pub mod Conditions
 pub mod Criteria
 pub mod Draws
+pub mod Explains
 pub mod Explores
+pub mod Kept
 pub mod LiveSizes
 pub mod Orders
 pub mod Runs

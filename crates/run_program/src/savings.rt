@@ -46,7 +46,7 @@ pub fn savings_run<I: Source, O: Sink, E: Sink>(
 
 /// Returns the options that the arguments ask for: how the history is followed, which calls are reported, and in which
 /// form.
-fn options_of(args: &SavingsArgs) -> SavingsOptions
+pub(crate) fn options_of(args: &SavingsArgs) -> SavingsOptions
     ensures { result ≡ options_of args.now }
 {
     SavingsOptions {
