@@ -19,27 +19,39 @@ ghost use Rattle.meshrun.specs.Paths.{file_at, file_of};
 ghost use Rattle.run_program.specs.Runs.{IsSound};
 
 use run_program::{
-    Args, Begun, Conditions, Criteria, Devices, ExploreArgs, Input, Output, Progress, Request, Sink,
-    Source, Told, check_run, draw_run, expected_run, explore_run, live_run, order_run,
-    replay_history_run, replay_run, request, savings_run, stop_run, threads_history_run,
-    threads_run, unopened_run, unread_words,
+    Args, Begun, Conditions, Criteria, Devices, ExploreArgs, Hushed, Input, Kept, Output, Piped,
+    Progress, Request, Sink, Source, TextKind, TextSource, Told, check_run, draw_run, expected_run,
+    explain_run, explain_savings_run, explore_run, live_run, order_run, replay_history_run,
+    replay_run, request, savings_run, stop_run, threads_history_run, threads_run,
+    unopened_reason_run, unopened_run, unread_words,
 };
+use std::cell::Cell;
 use std::fs::File;
 use std::io::IsTerminal;
 use std::process::ExitCode;
 use std::sync::Wait;
 use std::thread::Threads;
-use std::{env, io};
+use std::{env, fs, io};
 
 /// The path by which the command line names standard input.
 const STANDARD_INPUT: &str = "-";
+
+/// The exit status of a run whose input has a fault.
+const FAULTY: u8 = 2;
 
 fn main(rt: HostRuntime) -> ExitCode {
     let mut output = Output::new(rt.stdout());
     let mut errors = Output::new(rt.stderr());
     let status = match words(&rt) {
         Ok(words) => match request(rt.alloc(), words.as_slice()) {
-            Ok(request) => run(&rt, &rt, &request, output, errors),
+            Ok(request) => {
+                let asked = Asked {
+                    rt: &rt,
+                    threads: &rt,
+                    request: &request,
+                };
+                run(&asked, output, errors)
+            }
             Err(stop) => stop_run(&stop, &mut output, &mut errors),
         },
         Err(error) => stop_run(&unread_words(&error), &mut output, &mut errors),
@@ -47,23 +59,153 @@ fn main(rt: HostRuntime) -> ExitCode {
     ExitCode::from(status)
 }
 
-/// Runs the command of a request, and returns the exit status.
+/// What the program is asked for, and the handles for it.
+#[derive(Clone, Copy)]
+struct Asked<'a, R> {
+    rt: &'a HostRuntime,
+    threads: &'a R,
+    request: &'a Request<'a>,
+}
+
+/// Runs the command that the program is asked for, and returns the exit status.
 fn run<R: Threads + Wait + Sync, O: Sink + Drop, E: Sink + Drop>(
-    rt: &HostRuntime,
-    threads: &R,
-    request: &Request<'_>,
+    asked: &Asked<'_, R>,
     output: O,
     mut errors: E,
 ) -> u8
     requires { O.has_failed output ≡ false }
 {
-    let Some(path) = path_of(&request.args) else {
+    if explains(asked.request) {
+        return run_explained(asked);
+    }
+    let Some(path) = path_of(&asked.request.args) else {
+        let input = Input::new(asked.rt.stdin());
+        return run_on(asked, input, output, errors).status;
+    };
+    match File::open(asked.rt, path) {
+        Ok(file) => run_on(asked, Input::new(file), output, errors).status,
+        Err(_) => unopened_run(&mut errors),
+    }
+}
+
+/// Whether a second line on standard error explains a fault of the input, and a closed pipe is no fault. A live session
+/// answers faults itself.
+fn explains(request: &Request<'_>) -> bool {
+    match request.args {
+        Args::Live(_) => false,
+        _ => request.explains,
+    }
+}
+
+/// Runs the command that the program is asked for, explains the fault of its input if it has one, and returns the exit
+/// status. If the reader of standard output has gone, no fault is reported.
+fn run_explained<R: Threads + Wait + Sync>(asked: &Asked<'_, R>) -> u8 {
+    let rt = asked.rt;
+    let is_closed = Cell::new(false);
+    let output = Output::new(Piped::new(rt.stdout(), &is_closed));
+    let mut errors = Hushed::new(Output::new(rt.stderr()), &is_closed);
+    let Some(path) = path_of(&asked.request.args) else {
         let input = Input::new(rt.stdin());
-        return run_on(rt, threads, request, input, output, errors);
+        return run_kept(asked, STANDARD_INPUT, input, output, errors);
     };
     match File::open(rt, path) {
-        Ok(file) => run_on(rt, threads, request, Input::new(file), output, errors),
-        Err(_) => unopened_run(&mut errors),
+        Ok(file) if is_regular(rt, path) => run_file(asked, path, file, output, errors),
+        Ok(file) => run_kept(asked, path, Input::new(file), output, errors),
+        Err(error) => unopened(path, &error, &mut errors),
+    }
+}
+
+/// Whether the file at the path can be read again: it is no pipe and no device.
+fn is_regular(rt: &HostRuntime, path: &str) -> bool {
+    match fs::metadata(rt, path) {
+        Ok(metadata) => metadata.is_file(),
+        Err(_) => false,
+    }
+}
+
+/// Runs the command on an input with this name that can be read only once, and explains the fault of its text.
+fn run_kept<R: Threads + Wait + Sync, I: Source + Drop, O: Sink + Drop, E: Sink + Drop>(
+    asked: &Asked<'_, R>,
+    name: &str,
+    input: I,
+    output: O,
+    errors: E,
+) -> u8
+    requires input { I.has_failed input ≡ false }
+    requires output { O.has_failed output ≡ false }
+{
+    let input = Kept::new(asked.rt.alloc(), input);
+    let Ended {
+        status,
+        input,
+        mut errors,
+    } = run_on(asked, input, output, errors);
+    if status == FAULTY {
+        if let Some(text) = input.text() {
+            explain_text(asked.rt, &asked.request.args, name, text, &mut errors);
+        }
+    }
+    status
+}
+
+/// Explains the fault of a text, whose input has this name.
+fn explain_text<E: Sink>(
+    rt: &HostRuntime,
+    args: &Args<'_>,
+    name: &str,
+    text: &[u8],
+    errors: &mut E,
+) {
+    explain(rt, args, name, &mut TextSource { rest: text }, errors);
+}
+
+/// Runs the command on the file at the path, and explains the fault of its text, for which it reads the file again.
+fn run_file<R: Threads + Wait + Sync, O: Sink + Drop, E: Sink + Drop>(
+    asked: &Asked<'_, R>,
+    path: &str,
+    file: File,
+    output: O,
+    errors: E,
+) -> u8
+    requires { O.has_failed output ≡ false }
+{
+    let mut ended = run_on(asked, Input::new(file), output, errors);
+    if ended.status == FAULTY {
+        if let Ok(file) = File::open(asked.rt, path) {
+            explain(
+                asked.rt,
+                &asked.request.args,
+                path,
+                &mut Input::new(file),
+                &mut ended.errors,
+            );
+        }
+    }
+    ended.status
+}
+
+/// Writes that the file at the path can't be opened, and why. Returns the exit status.
+fn unopened<E: Sink>(path: &str, error: &io::Error, errors: &mut E) -> u8 {
+    let status = unopened_run(errors);
+    unopened_reason_run(path, error, errors);
+    status
+}
+
+/// Explains the fault of the text in the input, which has this name.
+fn explain<I: Source, E: Sink>(
+    rt: &HostRuntime,
+    args: &Args<'_>,
+    name: &str,
+    input: &mut I,
+    errors: &mut E,
+)
+    requires { I.has_failed input.old ≡ false }
+{
+    let alloc = rt.alloc();
+    match args {
+        Args::Savings(_, args) => explain_savings_run(alloc, name, args, input, errors),
+        Args::Check(..) => explain_run(alloc, name, TextKind::History, input, errors),
+        _ => explain_run(alloc, name, TextKind::Job, input, errors),
     }
 }
 
@@ -96,50 +238,101 @@ fn file_at(path: &str) -> Option<&str>
     }
 }
 
-/// Runs the command with this input, output and error output, and returns the exit status.
+/// A run that has ended: its exit status, and two of its devices.
+#[derive(Drop)]
+struct Ended<I: Drop, E: Drop> {
+    status: u8,
+    input: I,
+    errors: E,
+}
+
+/// Runs the command with this input, output and error output.
 fn run_on<R: Threads + Wait + Sync, I: Source + Drop, O: Sink + Drop, E: Sink + Drop>(
-    rt: &HostRuntime,
-    threads: &R,
-    request: &Request<'_>,
+    asked: &Asked<'_, R>,
     mut input: I,
     mut output: O,
     mut errors: E,
-) -> u8
+) -> Ended<I, E>
     requires input { I.has_failed input ≡ false }
     requires output { O.has_failed output ≡ false }
 {
+    let rt = asked.rt;
     let alloc = rt.alloc();
-    match &request.args {
+    let status = match &asked.request.args {
         Args::Replay(_) => replay_run(alloc, &mut input, &mut output, &mut errors),
         Args::ReplayHistory(_) => {
-            replay_history_run(alloc, &mut Devices::new(input, output, errors))
+            let mut devices = Devices::new(input, output, errors);
+            let status = replay_history_run(alloc, &mut devices);
+            return ended_with(status, devices);
         }
         Args::Threads(_, args) => {
-            threads_run(threads, alloc, &mut input, &mut output, &mut errors, args)
+            threads_run(
+                asked.threads,
+                alloc,
+                &mut input,
+                &mut output,
+                &mut errors,
+                args,
+            )
         }
         Args::ThreadsHistory(_, args) => {
             let mut devices = Devices::new(input, output, errors);
-            threads_history_run(threads, alloc, &mut devices, args)
+            let status = threads_history_run(asked.threads, alloc, &mut devices, args);
+            return ended_with(status, devices);
         }
         Args::Draw(path, args) => {
-            draw_run(alloc, path, args, &mut Devices::new(input, output, errors))
+            let mut devices = Devices::new(input, output, errors);
+            let status = draw_run(alloc, path, args, &mut devices);
+            return ended_with(status, devices);
         }
         Args::Explore(_, args) => {
             let mut devices = Devices::new(input, output, errors);
-            explore(rt, args, &request.conditions, &mut devices)
+            let status = explore(rt, args, &asked.request.conditions, &mut devices);
+            return ended_with(status, devices);
         }
-        Args::Live(args) => live_run(alloc, args, &mut Devices::new(input, output, errors)),
+        Args::Live(args) => {
+            let mut devices = Devices::new(input, output, errors);
+            let status = live_run(alloc, args, &mut devices);
+            return ended_with(status, devices);
+        }
         Args::Check(_, args) if args.is_ordered => {
             let mut devices = Devices::new(input, output, errors);
-            order_run(alloc, args.configurations, &mut devices)
+            let status = order_run(alloc, args.configurations, &mut devices);
+            return ended_with(status, devices);
         }
         Args::Check(_, args) => {
             let mut devices = Devices::new(Begun::new(input), output, errors);
-            check_run(alloc, args.configurations, &mut devices)
+            let status = check_run(alloc, args.configurations, &mut devices);
+            let (begun, _, errors) = devices.into_parts();
+            return Ended {
+                status,
+                input: begun.into_inner(),
+                errors,
+            };
         }
         Args::Savings(_, args) => {
-            savings_run(alloc, args, &mut Devices::new(input, output, errors))
+            let mut devices = Devices::new(input, output, errors);
+            let status = savings_run(alloc, args, &mut devices);
+            return ended_with(status, devices);
         }
+    };
+    Ended {
+        status,
+        input,
+        errors,
+    }
+}
+
+/// A run with these devices that has ended with this status.
+fn ended_with<I: Source + Drop, O: Sink + Drop, E: Sink + Drop>(
+    status: u8,
+    devices: Devices<I, O, E>,
+) -> Ended<I, E> {
+    let (input, _, errors) = devices.into_parts();
+    Ended {
+        status,
+        input,
+        errors,
     }
 }
 
@@ -185,7 +378,7 @@ fn expected(rt: &HostRuntime, args: &ExploreArgs<'_>) -> Result<Option<Vec<u8>>,
             let text = expected_run(rt.alloc(), &mut Input::new(file), &mut errors)?;
             Ok(Some(text))
         }
-        Err(_) => Err(unopened_run(&mut errors)),
+        Err(error) => Err(unopened(path, &error, &mut errors)),
     }
 }
 
