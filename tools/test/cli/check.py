@@ -4,7 +4,7 @@ import pathlib
 import socket
 import sys
 
-from cli.suite import NOTHING, SOME_TEXT, Run, execute, line
+from cli.suite import NOTHING, SOME_TEXT, Explained, Run, execute, line
 
 OVERLAPPING = pathlib.Path("histories/overlapping")
 LOST_STORE = (
@@ -57,8 +57,9 @@ def overlapping(suite, history):
     verdict, fault, options = (history.with_suffix(suffix) for suffix in (".out", ".err", ".options"))
     words = options.read_text().split() if options.exists() else []
     if fault.exists():
-        suite.check(name, 2, NOTHING, fault, "check", history, *words)
-        suite.check(ordered, 2, NOTHING, fault, "check", history, "--order", *words)
+        explained = Explained(fault.read_bytes())
+        suite.check(name, 2, NOTHING, explained, "check", history, *words)
+        suite.check(ordered, 2, NOTHING, explained, "check", history, "--order", *words)
     elif verdict.read_text().startswith("linearizable"):
         suite.check(name, 0, verdict, NOTHING, "check", history, *words)
         order(suite, ordered, history)
@@ -111,7 +112,7 @@ def long_lines(suite, version):
     ):
         history = suite.write("long.history", f"history {version}\n{text}".encode())
         name = f"check: {name}, version {version}"
-        suite.check(name, 2, NOTHING, line(f"line 2: {fault}"), "check", history)
+        suite.check(name, 2, NOTHING, Explained(line(f"line 2: {fault}")), "check", history)
 
 
 def failing_read(suite, version):

@@ -10,7 +10,7 @@ import sys
 import typing
 
 from cli import golden
-from cli.suite import NOTHING, Beginning, execute, line, lines
+from cli.suite import NOTHING, Beginning, Explained, execute, line, lines
 
 JOBS = pathlib.Path("jobs/explore")
 VERDICTS = JOBS / "verdicts"
@@ -53,7 +53,7 @@ def cases(suite):
     for job, expected in golden.jobs():
         if golden.is_fault(expected):
             name = f"explore: {job.with_suffix('')}"
-            suite.check(name, 2, NOTHING, expected, "explore", job, "--mesh", "1:0")
+            suite.check(name, 2, NOTHING, Explained(expected.read_bytes()), "explore", job, "--mesh", "1:0")
     answers_shown(suite)
     verdicts(suite)
     golden_verdicts(suite)

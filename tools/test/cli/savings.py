@@ -4,7 +4,7 @@ import pathlib
 import xml.dom.minidom
 import xml.parsers.expat
 
-from cli.suite import NOTHING, SOME_TEXT, execute
+from cli.suite import NOTHING, SOME_TEXT, Explained, execute
 
 FILES = pathlib.Path("histories/savings")
 TAR = FILES / "tar.history"
@@ -34,15 +34,23 @@ def golden(suite, options):
     """A table or a fault that the other engine wrote. The history of a.b.args is a.history."""
     history = options.with_name(options.name.split(".")[0] + ".history")
     output, errors = (options.with_suffix(suffix) for suffix in (".out", ".err"))
-    status = status_of(errors.read_text()) if errors.exists() else 0
-    texts = [path if path.exists() else NOTHING for path in (output, errors)]
+    text = output if output.exists() else NOTHING
+    fault = errors.read_bytes() if errors.exists() else NOTHING
     words = options.read_text().split()
-    suite.check(f"savings: {options.with_suffix('')}", status, *texts, "savings", history, *words)
+    name = f"savings: {options.with_suffix('')}"
+    suite.check(name, status_of(fault), text, explained(fault), "savings", history, *words)
 
 
 def status_of(fault):
-    """The status with a line on standard error: bad input, or addresses that were used up."""
-    return 4 if fault.startswith("addresses used up") else 2
+    """The status with a line on standard error: bad input, or addresses that were used up. 0 without a line."""
+    if not fault:
+        return 0
+    return 4 if fault.startswith(b"addresses used up") else 2
+
+
+def explained(fault):
+    """What is printed on standard error for a fault: a fault of the text is explained."""
+    return Explained(fault) if status_of(fault) == 2 else fault
 
 
 def more_than_the_addresses():
@@ -57,7 +65,7 @@ def compare_engines(suite, engine, used_up):
     def both(name, history, *words):
         wanted = execute([engine, history, *words])
         name = f"savings: {name}, {' '.join(map(str, words))}"
-        suite.check(name, *wanted, "savings", history, *words)
+        suite.check(name, wanted.status, wanted.output, explained(wanted.errors), "savings", history, *words)
 
     for name in RECORDED:
         history = suite.room / f"{name}.history"

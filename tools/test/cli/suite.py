@@ -3,6 +3,7 @@
 import itertools
 import os
 import pathlib
+import re
 import socket
 import subprocess
 import typing
@@ -19,6 +20,12 @@ class Beginning(typing.NamedTuple):
     """What a text should be: one that begins with these bytes."""
 
     text: bytes
+
+
+class Explained(typing.NamedTuple):
+    """What a text should be: this line of a fault, with its end, and a second line that says where and why it is."""
+
+    line: bytes
 
 
 class Run(typing.NamedTuple):
@@ -122,6 +129,8 @@ def differences(stream, text, wanted):
     if isinstance(wanted, Beginning):
         begun = text[: len(wanted.text)]
         return [] if begun == wanted.text else [f"{stream} begins with {shown(begun)}, not {shown(wanted.text)}"]
+    if isinstance(wanted, Explained):
+        return unexplained(stream, text, wanted.line)
     if isinstance(wanted, pathlib.Path):
         if not wanted.is_file():
             return [f"there is no {wanted} for {stream}"]
@@ -131,6 +140,18 @@ def differences(stream, text, wanted):
     both = itertools.zip_longest(text.splitlines(keepends=True), wanted.splitlines(keepends=True))
     number, (found, expected) = next((k, pair) for k, pair in enumerate(both, 1) if pair[0] != pair[1])
     return [f"line {number} of {stream} is {shown(found)}, not {shown(expected)}"]
+
+
+def unexplained(stream, text, line):
+    """How a text differs from the line of a fault and a second line that begins with the fault's place."""
+    first, second = text[: len(line)], text[len(line) :]
+    if first != line:
+        return [f"{stream} begins with {shown(first)}, not {shown(line)}"]
+    number = line.split(b":")[0].removeprefix(b"line ")
+    place = b"" if number == b"0" else b":" + number
+    if re.fullmatch(b"[^:\n]+" + place + b": [^\n]+\n", second):
+        return []
+    return [f"line 2 of {stream} is {shown(second)}, which explains no fault"]
 
 
 def shown(text):

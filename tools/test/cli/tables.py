@@ -5,8 +5,8 @@ A case is a line of five fields, with two spaces or more between them:
     NAME  STATUS  OUTPUT  ERRORS  WORDS
 
 OUTPUT and ERRORS are what is printed on standard output and standard error: `-` for nothing, `any` for some text,
-`"TEXT"` for this line (`\n` in it begins another one), `"TEXT"..` for a text that begins so, `THESE` for lines below
-the case, or else the file whose content it is.
+`"TEXT"` for this line (`\n` in it begins another one), `"TEXT"..` for a text that begins so, `"TEXT"+` for the line of
+a fault and a second one that explains it, `THESE` for lines below the case, or else the file whose content it is.
 
 WORDS are the words after the program's name, as in a shell. `cat PATH | WORDS` makes standard input a pipe, `<PATH` a
 file; it is /dev/null otherwise. `>/dev/full` and `2>/dev/full` make an output a full device.
@@ -15,7 +15,8 @@ A line that is indented goes on with the fields. Indented lines that begin with 
 which WORDS call FILE: what follows `| `, with the escapes of Python. A `\` at the end of a line removes its line end.
 Indented lines that begin with `>` are those that OUTPUT calls THESE, in the same form.
 
-`NAME = TEXT` defines $NAME for the lines below; $PROGRAM is the program's file name. `#` begins a comment.
+`NAME = TEXT` defines $NAME for the lines below; $PROGRAM is the program's file name, and $FILE the path of FILE. `#`
+begins a comment.
 """
 
 import dataclasses
@@ -24,16 +25,18 @@ import re
 import shlex
 import string
 
-from cli.suite import NOTHING, SOME_TEXT, Beginning
+from cli.suite import NOTHING, SOME_TEXT, Beginning, Explained
 
+OWN_FILE = "own_file"
 FULL = {">/dev/full": "stdout", "2>/dev/full": "stderr"}
 
 
 def run(suite, path):
     """Runs the cases of a table."""
-    for case in entries(path, {"PROGRAM": suite.program.name}):
+    definitions = {"PROGRAM": suite.program.name, "FILE": str(suite.room / OWN_FILE)}
+    for case in entries(path, definitions):
         name, status, output, errors, words = re.split(" {2,}", f"{case.fields}  ", maxsplit=4)
-        own_file = suite.write("own_file", content(case.own))
+        own_file = suite.write(OWN_FILE, content(case.own))
         words, streams = command(words, own_file)
         wanted = content(case.these) if output == "THESE" else text(output)
         suite.check(name, int(status), wanted, text(errors), *words, **streams)
@@ -85,6 +88,8 @@ def text(field):
         return SOME_TEXT
     if field.startswith('"') and field.endswith(".."):
         return Beginning(unescaped(field[1:-3]))
+    if field.startswith('"') and field.endswith("+"):
+        return Explained(unescaped(field[1:-2]) + b"\n")
     if field.startswith('"'):
         return unescaped(field[1:-1]) + b"\n"
     return pathlib.Path(field)
