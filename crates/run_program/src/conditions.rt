@@ -44,7 +44,14 @@ fn add_spelt(
         let Some(pattern) = Pattern::spelt(alloc, text.as_bytes())? else {
             return Err(VerdictError::NoCondition(demand, number));
         };
-        add(conditions, Condition { demand, number, pattern })?;
+        add(
+            conditions,
+            Condition {
+                demand,
+                number,
+                pattern,
+            },
+        )?;
         number += 1;
         rest = behind;
     }

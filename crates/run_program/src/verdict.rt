@@ -166,6 +166,7 @@ fn verdict_status_of(error: VerdictError) -> u8
 {
     match error {
         VerdictError::Explore(error) => explore_status_of(error),
-        VerdictError::NoCondition(_, _) | VerdictError::Unmatched(_) | VerdictError::NoList(_) => FAULTY,
+        VerdictError::NoCondition(_, _) | VerdictError::Unmatched(_) | VerdictError::NoList(_) =>
+            FAULTY,
     }
 }

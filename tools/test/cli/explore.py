@@ -121,7 +121,7 @@ def answers_shown(suite):
 
 
 def verdicts(suite):
-    """Verdicts on lists of outcomes, and on patterns."""
+    """Verdicts on lists of outcomes, and on conditions."""
     outcomes = outcomes_in(STORE.with_suffix(".out"))
     first, second = (lines(outcome.answers) for outcome in outcomes)
     other = second.replace(b"bytes 00", b"bytes bb")
@@ -143,9 +143,10 @@ def verdicts(suite):
     check("another outcome", 3, b"missing:\n" + other + reported("unexpected:", 1), "--expect", listed)
     check("never worker 1: bytes 00", 3, reported("never 1: 1 of 2 outcomes", 1), "--never", "worker 1: bytes 00")
     listed = suite.write("listed", first)
-    patterns = "--never", "worker 1: byte 00", "--never", "worker 0: * | bytes aa"
-    both = reported("unexpected:", 1) + reported("never 2: 2 of 2 outcomes", 0)
-    check("both at once", 3, both, "--expect", listed, *patterns)
+    conditions = "--never", "worker 1: byte 00", "--never", "worker 0: * | bytes aa"
+    unseen = b"never 1: 0 of 2 outcomes; no outcome has answer 1 of worker 1\n"
+    both = reported("unexpected:", 1) + unseen + reported("never 2: 2 of 2 outcomes", 0)
+    check("both at once", 3, both, "--expect", listed, *conditions)
 
 
 def golden_verdicts(suite):
