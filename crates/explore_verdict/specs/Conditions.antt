@@ -87,7 +87,8 @@ abbrev pub example_pieces : Option Example → List Piece
 example_pieces None = []
 example_pieces (Some example) = shown example.number example.outcome ∷ []
 
--- what a verdict says of a condition: its line and, if it doesn't hold, the first outcome of the listing that shows this
+-- what a verdict says of a condition: its line and, if it doesn't hold, the first outcome of the listing that shows
+-- this
 abbrev pub condition_pieces : List ExploreState → List Outcome → Condition → List Piece
 condition_pieces states outcomes condition =
     plain (condition_line states outcomes condition)

@@ -387,8 +387,8 @@ sizes_in rows =
     option_and_then (λ pages. option_and_then (λ history. option_map (λ workers. record { pages = pages; history = history; workers = workers })
     (number_in (codes "workers") 1 64 rows)) (number_in (codes "history") 0 65536 rows)) (number_in (codes "pages") 1 4096 rows)
 
--- what the subcommand of this name asks for, with this file, these matches and these conditions. `live` isn't among these
--- subcommands, because it needs no file
+-- what the subcommand of this name asks for, with this file, these matches and these conditions. `live` isn't among
+-- these subcommands, because it needs no file
 abbrev pub asked_of : ConditionTexts → Text → List Row → Text → Option Asked
 asked_of conditions name rows file =
     if bytes_eq name (codes "replay") then option_map (replay_by file) (is_recorded_in rows)
@@ -416,8 +416,8 @@ asked_in (Some found) = asked_by found.0 found.1
 unfoldable pub asked : List Text → Option Asked
 asked words = asked_in (subcommand_of meshrun_app words)
 
--- the conditions in what was found of a subcommand. There are none without a subcommand, and none are taken if an option
--- is given more than ten times
+-- the conditions in what was found of a subcommand. There are none without a subcommand, and none are taken if an
+-- option is given more than ten times
 abbrev pub conditions_found : Option (Text × List Row) → ConditionTexts
 conditions_found None = no_condition
 conditions_found (Some found) = unwrap_or (conditions_in found.1) no_condition

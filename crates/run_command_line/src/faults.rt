@@ -95,7 +95,8 @@ fn named_command<'a>(
 }
 
 /// Returns the message about options of `explore` that the program doesn't accept. The reasons are meshes that can't be
-/// read or are too many, an option that is given more than ten times, an answer that can't be read, and options that exclude each other.
+/// read or are too many, an option that is given more than ten times, an answer that can't be read, and options that
+/// exclude each other.
 fn explore_message<'a>(alloc: Global, matches: &ArgMatches<'a>) -> Result<String, AllocError> {
     if meshes(matches).is_none() {
         return mesh_message(alloc, matches);
@@ -113,7 +114,8 @@ fn explore_message<'a>(alloc: Global, matches: &ArgMatches<'a>) -> Result<String
     }
 }
 
-/// Returns the first option for conditions that is given more than ten times. Returns `None` if there is no such option.
+/// Returns the first option for conditions that is given more than ten times. Returns `None` if there is no such
+/// option.
 fn overfull<'a>(matches: &ArgMatches<'a>) -> Option<&'static str> {
     for option in [NEVER, ALWAYS, EXISTS] {
         if texts(matches, option).is_none() {

@@ -24,7 +24,8 @@ pub(crate) fn threads<'a>(file: &'a str, matches: &ArgMatches<'a>) -> Option<Arg
 /// Returns the request for a run of a file's scripts in threads. The run prints a recorded history if `is_recorded` is
 /// true, and the answers otherwise.
 fn threads_of(file: &str, args: ThreadsArgs, is_recorded: bool) -> Args<'_>
-    ensures { (conditions : ConditionTexts) → asking conditions result ≡ threads_by file.now (numbers_of args) is_recorded }
+    ensures { (conditions : ConditionTexts) → asking conditions result
+        ≡ threads_by file.now (numbers_of args) is_recorded }
 {
     if is_recorded {
         Args::ThreadsHistory(file, args)

@@ -136,8 +136,8 @@ verdict_text states (Unmatched condition) = unmatched_text condition
 verdict_text states (NoList fault) = list_text fault
 verdict_text states (NoCondition demand number) = option_text demand ++ decimal number ++ codes ": no condition 'W: ANSWER | ..'"
 
--- the status of an error that prevents a verdict: 2 for a condition or a list that can't be judged, otherwise the status
--- of the exploration's error
+-- the status of an error that prevents a verdict: 2 for a condition or a list that can't be judged, otherwise the
+-- status of the exploration's error
 abbrev pub verdict_status : VerdictError → ℕ
 verdict_status (Explore error) = explore_status error
 verdict_status (NoCondition demand number) = 2
