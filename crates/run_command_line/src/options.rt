@@ -364,11 +364,20 @@ pub(crate) struct Subcommand {
 /// The help text of the file argument, for subcommands that read a recorded history.
 const HISTORY_FILE: &str = "The recorded history, or - for standard input";
 
+/// Examples of `explore`: a listing, and a verdict of each kind.
+const EXPLORE_EXAMPLES: &str = "\
+Examples:
+  meshrun explore jobs/explore/store_and_copy.job --mesh 1:0
+  meshrun explore jobs/explore/store_and_copy.job --mesh 1:0 --expect jobs/explore/store_and_copy.out
+  meshrun explore jobs/explore/store_and_copy.job --mesh 1:0 --never '0: done | bytes 00 & 1: bytes 00'
+  meshrun explore jobs/explore/store_and_copy.job --mesh 1:0 --always '0: done | bytes aa'
+  meshrun explore jobs/explore/store_and_copy.job --mesh 1:0 --exists '1: bytes 00'";
+
 /// The subcommand `explore`.
 pub(crate) const EXPLORE: Subcommand = Subcommand {
     name: "explore",
     about: "Run the commands that a job file's plan leaves in every interleaving with meshes, and print all answers or a verdict",
-    example: "Example: meshrun explore jobs/explore/store_and_copy.job --mesh 1:0",
+    example: EXPLORE_EXAMPLES,
     arguments: &[
         Argument::File("The job file, whose plan leads to the initial state; - is standard input"),
         Argument::Meshes,
