@@ -1,4 +1,5 @@
 pub mod CheckEnds
+mod Dispatched
 pub mod ExploreEnds
 pub mod FirstWords
 pub mod Messages

@@ -1,6 +1,7 @@
 pub mod Checks
 pub mod Conditions
 pub mod Criteria
+pub mod Dispatches
 pub mod Draws
 pub mod Explains
 pub mod Explores

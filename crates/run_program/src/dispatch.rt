@@ -1,0 +1,236 @@
+//! The run that a command line asks for.
+ghost use Rattle.std.specs.Option.{option_copied};
+ghost use Rattle.run_command_line.specs.Conditions.{conditions_of};
+ghost use Rattle.run_program.specs.Dispatches.{EndsAs, EndsCheckBy, EndsExploreBy, EndsJudgement, EndsRecorded, EndsReplay};
+ghost use Rattle.run_program.specs.Draws.{EndsDraw, EndsLive};
+ghost use Rattle.run_program.specs.LiveSizes.{session_sizes};
+ghost use Rattle.run_program.specs.Orders.{EndsOrder};
+ghost use Rattle.run_program.specs.Runs.{IsSound};
+ghost use Rattle.run_program.specs.Savings.{EndsSavings, options_of};
+ghost use Rattle.run_program.specs.Threads.{EndsThreads};
+ghost use Rattle.run_program.specs.declared.printed.Printed.{Printed};
+
+use crate::check::check_run;
+use crate::draw::draw_run;
+use crate::explore::explore_run;
+use crate::live::live_run;
+use crate::order::order_run;
+use crate::runs::{replay_history_run, replay_run};
+use crate::savings::savings_run;
+use crate::threads::{threads_history_run, threads_run};
+use crate::{
+    Args, Begun, CheckArgs, Conditions, Criteria, Devices, DrawArgs, ExploreArgs, LiveArgs,
+    Request, SavingsArgs, ThreadsArgs,
+};
+use states_reach::Watch;
+use std::alloc::Global;
+use std::sync::Wait;
+use std::thread::Threads;
+use text_devices::{Sink, Source};
+
+/// A run that has ended: its exit status, and its devices.
+#[derive(Drop)]
+pub struct Ended<I: Source, O: Sink, E: Sink> {
+    /// The exit status.
+    pub status: u8,
+    /// The devices, as the run left them.
+    pub devices: Devices<I, O, E>,
+}
+
+/// Runs the subcommand that is requested, with its arguments and its conditions. `expected` is the text of the expected
+/// outcomes of an exploration, whose progress is reported to `watch`.
+pub fn run<R: Threads + Wait + Sync, I: Source + Drop, O: Sink + Drop, E: Sink + Drop, W: Watch>(
+    threads: &R,
+    alloc: Global,
+    request: &Request<'_>,
+    expected: Option<&[u8]>,
+    devices: Devices<I, O, E>,
+    watch: &mut W,
+) -> Ended<I, O, E>
+    requires { IsSound devices }
+    ensures { EndsAs request.now (option_copied expected.entry) devices result.devices result.status }
+{
+    match &request.args {
+        Args::Replay(_) => replay(alloc, devices),
+        Args::ReplayHistory(_) => replay_history(alloc, devices),
+        Args::Threads(_, args) => run_scripts(threads, alloc, args, devices),
+        Args::ThreadsHistory(_, args) => record_scripts(threads, alloc, args, devices),
+        Args::Draw(path, args) => draw(alloc, path, args, devices),
+        Args::Explore(_, args) => {
+            explore(alloc, args, &request.conditions, expected, devices, watch)
+        }
+        Args::Live(args) => live(alloc, args, devices),
+        Args::Check(_, args) => check(alloc, args, devices),
+        Args::Savings(_, args) => report_savings(alloc, args, devices),
+    }
+}
+
+/// Replays a job, and prints the answers.
+fn replay<I: Source, O: Sink, E: Sink>(
+    alloc: Global,
+    mut devices: Devices<I, O, E>,
+) -> Ended<I, O, E>
+    requires { IsSound devices }
+    ensures { EndsReplay devices result.devices result.status }
+{
+    let status = replay_run(
+        alloc,
+        &mut devices.input,
+        &mut devices.output,
+        &mut devices.errors,
+    );
+    Ended { status, devices }
+}
+
+/// Replays a job, and prints its journal as a recorded history.
+fn replay_history<I: Source, O: Sink, E: Sink>(
+    alloc: Global,
+    mut devices: Devices<I, O, E>,
+) -> Ended<I, O, E>
+    requires { IsSound devices }
+    ensures { EndsRecorded devices result.devices result.status }
+{
+    let status = replay_history_run(alloc, &mut devices);
+    Ended { status, devices }
+}
+
+/// Runs a job's scripts in threads, and prints each worker's answers.
+fn run_scripts<R: Threads + Wait + Sync, I: Source, O: Sink, E: Sink>(
+    threads: &R,
+    alloc: Global,
+    args: &ThreadsArgs,
+    mut devices: Devices<I, O, E>,
+) -> Ended<I, O, E>
+    requires { IsSound devices }
+    ensures { EndsThreads Printed.Answers devices result.devices result.status }
+{
+    let status = threads_run(
+        threads,
+        alloc,
+        &mut devices.input,
+        &mut devices.output,
+        &mut devices.errors,
+        args,
+    );
+    Ended { status, devices }
+}
+
+/// Runs a job's scripts in threads, and prints the recorded history of all threads.
+fn record_scripts<R: Threads + Wait + Sync, I: Source, O: Sink, E: Sink>(
+    threads: &R,
+    alloc: Global,
+    args: &ThreadsArgs,
+    mut devices: Devices<I, O, E>,
+) -> Ended<I, O, E>
+    requires { IsSound devices }
+    ensures { EndsThreads Printed.History devices result.devices result.status }
+{
+    let status = threads_history_run(threads, alloc, &mut devices, args);
+    Ended { status, devices }
+}
+
+/// Draws the plan of a job, whose file has this path.
+fn draw<I: Source, O: Sink, E: Sink>(
+    alloc: Global,
+    path: &str,
+    args: &DrawArgs,
+    mut devices: Devices<I, O, E>,
+) -> Ended<I, O, E>
+    requires { IsSound devices }
+    ensures { EndsDraw path.now args.now devices result.devices result.status }
+{
+    let status = draw_run(alloc, path, args, &mut devices);
+    Ended { status, devices }
+}
+
+/// Explores a job. A verdict judges these conditions and, if there is one, this text of the expected outcomes.
+fn explore<I: Source, O: Sink, E: Sink, W: Watch>(
+    alloc: Global,
+    args: &ExploreArgs<'_>,
+    conditions: &Conditions<'_>,
+    expected: Option<&[u8]>,
+    mut devices: Devices<I, O, E>,
+    watch: &mut W,
+) -> Ended<I, O, E>
+    requires { IsSound devices }
+    ensures { EndsExploreBy args.now (conditions_of conditions.now) (option_copied expected.entry) devices
+        result.devices result.status }
+{
+    let criteria = Criteria::new(expected, conditions);
+    let status = explore_run(alloc, args, &criteria, &mut devices, watch);
+    Ended { status, devices }
+}
+
+/// Answers the lines of a live session.
+fn live<I: Source, O: Sink, E: Sink>(
+    alloc: Global,
+    args: &LiveArgs,
+    mut devices: Devices<I, O, E>,
+) -> Ended<I, O, E>
+    requires { IsSound devices }
+    ensures { EndsLive (session_sizes args.now) devices result.devices result.status }
+{
+    let status = live_run(alloc, args, &mut devices);
+    Ended { status, devices }
+}
+
+/// Judges a recorded history, and prints the verdict or the order that is asked for.
+fn check<I: Source + Drop, O: Sink + Drop, E: Sink + Drop>(
+    alloc: Global,
+    args: &CheckArgs,
+    devices: Devices<I, O, E>,
+) -> Ended<I, O, E>
+    requires { IsSound devices }
+    ensures { EndsCheckBy args.now.is_ordered args.now.configurations devices result.devices result.status }
+{
+    if args.is_ordered {
+        order(alloc, args.configurations, devices)
+    } else {
+        judge(alloc, args.configurations, devices)
+    }
+}
+
+/// Judges a recorded history, and prints an order of its calls if there is one.
+fn order<I: Source, O: Sink, E: Sink>(
+    alloc: Global,
+    most: u32,
+    mut devices: Devices<I, O, E>,
+) -> Ended<I, O, E>
+    requires { IsSound devices }
+    ensures { EndsOrder most devices result.devices result.status }
+{
+    let status = order_run(alloc, most, &mut devices);
+    Ended { status, devices }
+}
+
+/// Judges a recorded history, and prints the verdict. Bytes of the input that were inspected and not read are lost.
+fn judge<I: Source + Drop, O: Sink, E: Sink>(
+    alloc: Global,
+    most: u32,
+    devices: Devices<I, O, E>,
+) -> Ended<I, O, E>
+    requires { IsSound devices }
+    ensures { EndsJudgement most devices result.devices result.status }
+{
+    let (input, output, errors) = devices.into_parts();
+    let mut devices = Devices::new(Begun::new(input), output, errors);
+    let status = check_run(alloc, most, &mut devices);
+    let (begun, output, errors) = devices.into_parts();
+    Ended {
+        status,
+        devices: Devices::new(begun.into_inner(), output, errors),
+    }
+}
+
+/// Reports what meshing saves for a recorded history.
+fn report_savings<I: Source, O: Sink, E: Sink>(
+    alloc: Global,
+    args: &SavingsArgs,
+    mut devices: Devices<I, O, E>,
+) -> Ended<I, O, E>
+    requires { IsSound devices }
+    ensures { EndsSavings (options_of args.now) devices result.devices result.status }
+{
+    let status = savings_run(alloc, args, &mut devices);
+    Ended { status, devices }
+}
