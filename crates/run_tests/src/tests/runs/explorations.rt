@@ -5,7 +5,7 @@ ghost use Rattle.std.specs.Prelude.{◌≡◌, false};
 
 use crate::memory::{Ran, SlowSource, in_memory};
 use crate::tests::check;
-use run_program::{Args, Criteria, Input, Source, Unwatched, explore_run, request};
+use run_program::{Args, Criteria, Input, Source, Told, Unwatched, explore_run, request};
 use std::process::Abort;
 
 /// The job file of a small exploration, which has 64 states and two outcomes.
@@ -37,7 +37,11 @@ fn explored<I: Source + Drop>(rt: &(impl Abort + AllocGlobal), line: &str, input
         panic!(rt; "words that ask for no exploration");
     };
     let mut devices = in_memory(rt.alloc(), input);
-    let criteria = Criteria::new(Some(LISTED.as_bytes()), &request.conditions);
+    let expected = match args.told {
+        Told::Verdict(Some(_)) => Some(LISTED.as_bytes()),
+        _ => None,
+    };
+    let criteria = Criteria::new(expected, &request.conditions);
     let status = explore_run(rt.alloc(), &args, &criteria, &mut devices, &mut Unwatched);
     Ran::of(status, devices)
 }
