@@ -15,15 +15,15 @@
 #![tactic(auto)]
 
 ghost use Rattle.std.specs.Prelude.{◌≡◌, false, option_map};
-ghost use Rattle.meshrun.specs.Paths.{file_at, file_of};
+ghost use Rattle.std.specs.Option.{option_copied};
+ghost use Rattle.meshrun.specs.Paths.{expected_file_of, file_at, file_of};
+ghost use Rattle.run_program.specs.Dispatches.{EndsAs};
 ghost use Rattle.run_program.specs.Runs.{IsSound};
 
 use run_program::{
-    Args, Begun, Conditions, Criteria, Devices, ExploreArgs, Hushed, Input, Kept, Output, Piped,
-    Progress, Request, Sink, Source, TextKind, TextSource, Told, check_run, draw_run, expected_run,
-    explain_run, explain_savings_run, explore_run, live_run, order_run, replay_history_run,
-    replay_run, request, savings_run, stop_run, threads_history_run, threads_run,
-    unopened_reason_run, unopened_run, unread_words,
+    Args, Devices, Ended, Hushed, Input, Kept, Output, Piped, Progress, Request, Sink, Source,
+    TextKind, TextSource, Told, expected_run, explain_run, explain_savings_run, request, run,
+    stop_run, unopened_reason_run, unopened_run, unread_words,
 };
 use std::cell::Cell;
 use std::fs::File;
@@ -50,7 +50,7 @@ fn main(rt: HostRuntime) -> ExitCode {
                     threads: &rt,
                     request: &request,
                 };
-                run(&asked, output, errors)
+                run_asked(&asked, output, errors)
             }
             Err(stop) => stop_run(&stop, &mut output, &mut errors),
         },
@@ -68,7 +68,7 @@ struct Asked<'a, R> {
 }
 
 /// Runs the command that the program is asked for, and returns the exit status.
-fn run<R: Threads + Wait + Sync, O: Sink + Drop, E: Sink + Drop>(
+fn run_asked<R: Threads + Wait + Sync, O: Sink + Drop, E: Sink + Drop>(
     asked: &Asked<'_, R>,
     output: O,
     mut errors: E,
@@ -135,11 +135,8 @@ fn run_kept<R: Threads + Wait + Sync, I: Source + Drop, O: Sink + Drop, E: Sink 
     requires output { O.has_failed output ≡ false }
 {
     let input = Kept::new(asked.rt.alloc(), input);
-    let Ended {
-        status,
-        input,
-        mut errors,
-    } = run_on(asked, input, output, errors);
+    let Ended { status, devices } = run_on(asked, input, output, errors);
+    let (input, _, mut errors) = devices.into_parts();
     if status == FAULTY {
         if let Some(text) = input.text() {
             explain_text(asked.rt, &asked.request.args, name, text, &mut errors);
@@ -169,19 +166,20 @@ fn run_file<R: Threads + Wait + Sync, O: Sink + Drop, E: Sink + Drop>(
 ) -> u8
     requires { O.has_failed output ≡ false }
 {
-    let mut ended = run_on(asked, Input::new(file), output, errors);
-    if ended.status == FAULTY {
+    let Ended { status, devices } = run_on(asked, Input::new(file), output, errors);
+    let (_, _, mut errors) = devices.into_parts();
+    if status == FAULTY {
         if let Ok(file) = File::open(asked.rt, path) {
             explain(
                 asked.rt,
                 &asked.request.args,
                 path,
                 &mut Input::new(file),
-                &mut ended.errors,
+                &mut errors,
             );
         }
     }
-    ended.status
+    status
 }
 
 /// Writes that the file at the path can't be opened, and why. Returns the exit status.
@@ -238,134 +236,62 @@ fn file_at(path: &str) -> Option<&str>
     }
 }
 
-/// A run that has ended: its exit status, and two of its devices.
-#[derive(Drop)]
-struct Ended<I: Drop, E: Drop> {
-    status: u8,
-    input: I,
-    errors: E,
-}
-
-/// Runs the command with this input, output and error output.
+/// Runs the command with this input, output and error output. If the text of the expected outcomes can't be read, runs
+/// nothing.
 fn run_on<R: Threads + Wait + Sync, I: Source + Drop, O: Sink + Drop, E: Sink + Drop>(
     asked: &Asked<'_, R>,
-    mut input: I,
-    mut output: O,
-    mut errors: E,
-) -> Ended<I, E>
+    input: I,
+    output: O,
+    errors: E,
+) -> Ended<I, O, E>
     requires input { I.has_failed input ≡ false }
     requires output { O.has_failed output ≡ false }
 {
-    let rt = asked.rt;
-    let alloc = rt.alloc();
-    let status = match &asked.request.args {
-        Args::Replay(_) => replay_run(alloc, &mut input, &mut output, &mut errors),
-        Args::ReplayHistory(_) => {
-            let mut devices = Devices::new(input, output, errors);
-            let status = replay_history_run(alloc, &mut devices);
-            return ended_with(status, devices);
-        }
-        Args::Threads(_, args) => {
-            threads_run(
-                asked.threads,
-                alloc,
-                &mut input,
-                &mut output,
-                &mut errors,
-                args,
-            )
-        }
-        Args::ThreadsHistory(_, args) => {
-            let mut devices = Devices::new(input, output, errors);
-            let status = threads_history_run(asked.threads, alloc, &mut devices, args);
-            return ended_with(status, devices);
-        }
-        Args::Draw(path, args) => {
-            let mut devices = Devices::new(input, output, errors);
-            let status = draw_run(alloc, path, args, &mut devices);
-            return ended_with(status, devices);
-        }
-        Args::Explore(_, args) => {
-            let mut devices = Devices::new(input, output, errors);
-            let status = explore(rt, args, &asked.request.conditions, &mut devices);
-            return ended_with(status, devices);
-        }
-        Args::Live(args) => {
-            let mut devices = Devices::new(input, output, errors);
-            let status = live_run(alloc, args, &mut devices);
-            return ended_with(status, devices);
-        }
-        Args::Check(_, args) if args.is_ordered => {
-            let mut devices = Devices::new(input, output, errors);
-            let status = order_run(alloc, args.configurations, &mut devices);
-            return ended_with(status, devices);
-        }
-        Args::Check(_, args) => {
-            let mut devices = Devices::new(Begun::new(input), output, errors);
-            let status = check_run(alloc, args.configurations, &mut devices);
-            let (begun, _, errors) = devices.into_parts();
-            return Ended {
-                status,
-                input: begun.into_inner(),
-                errors,
-            };
-        }
-        Args::Savings(_, args) => {
-            let mut devices = Devices::new(input, output, errors);
-            let status = savings_run(alloc, args, &mut devices);
-            return ended_with(status, devices);
-        }
-    };
-    Ended {
-        status,
-        input,
-        errors,
+    let devices = Devices::new(input, output, errors);
+    match expected(asked.rt, &asked.request.args) {
+        Ok(Some(text)) => run_expecting(asked, Some(text.as_slice()), devices),
+        Ok(None) => run_expecting(asked, None, devices),
+        Err(status) => Ended { status, devices },
     }
 }
 
-/// A run with these devices that has ended with this status.
-fn ended_with<I: Source + Drop, O: Sink + Drop, E: Sink + Drop>(
-    status: u8,
+/// Runs the command on these devices. `expected` is the text of the expected outcomes of an exploration. During an
+/// exploration, prints the number of states found so far on standard error, if standard error is a terminal or the
+/// arguments ask for progress.
+fn run_expecting<R: Threads + Wait + Sync, I: Source + Drop, O: Sink + Drop, E: Sink + Drop>(
+    asked: &Asked<'_, R>,
+    expected: Option<&[u8]>,
     devices: Devices<I, O, E>,
-) -> Ended<I, E> {
-    let (input, _, errors) = devices.into_parts();
-    Ended {
-        status,
-        input,
-        errors,
-    }
+) -> Ended<I, O, E>
+    requires { IsSound devices }
+    ensures { EndsAs asked.now.request.now (option_copied expected.entry) devices result.devices result.status }
+{
+    let rt = asked.rt;
+    let stderr = rt.stderr();
+    let is_watched = is_watched(&asked.request.args, stderr.is_terminal());
+    let mut watch = Progress::new(rt, Output::new(stderr), is_watched);
+    run(
+        asked.threads,
+        rt.alloc(),
+        asked.request,
+        expected,
+        devices,
+        &mut watch,
+    )
 }
 
-/// Explores, and returns the exit status. During the exploration, prints the number of states found so far on standard
-/// error, if standard error is a terminal or the arguments ask for progress.
-fn explore<I: Source, O: Sink, E: Sink>(
-    rt: &HostRuntime,
-    args: &ExploreArgs<'_>,
-    conditions: &Conditions<'_>,
-    devices: &mut Devices<I, O, E>,
-) -> u8
-    requires { IsSound devices.old }
-{
-    let stderr = rt.stderr();
-    let is_watched = args.is_watched || stderr.is_terminal();
-    let mut watch = Progress::new(rt, Output::new(stderr), is_watched);
-    match expected(rt, args) {
-        Ok(Some(text)) => {
-            let criteria = Criteria::new(Some(text.as_slice()), conditions);
-            explore_run(rt.alloc(), args, &criteria, devices, &mut watch)
-        }
-        Ok(None) => {
-            let criteria = Criteria::new(None, conditions);
-            explore_run(rt.alloc(), args, &criteria, devices, &mut watch)
-        }
-        Err(status) => status,
+/// Whether progress is printed: during an exploration, on a terminal or if the arguments ask for it.
+fn is_watched(args: &Args<'_>, is_terminal: bool) -> bool {
+    match args {
+        Args::Explore(_, args) => args.is_watched || is_terminal,
+        _ => false,
     }
 }
 
 /// Returns the text of the expected outcomes, or `None` if the arguments name no such text. If the text can't be read,
 /// the error is the exit status.
-fn expected(rt: &HostRuntime, args: &ExploreArgs<'_>) -> Result<Option<Vec<u8>>, u8> {
-    let Told::Verdict(Some(path)) = args.told else {
+fn expected(rt: &HostRuntime, args: &Args<'_>) -> Result<Option<Vec<u8>>, u8> {
+    let Some(path) = expected_path(args) else {
         return Ok(None);
     };
     let mut errors = Output::new(rt.stderr());
@@ -379,6 +305,19 @@ fn expected(rt: &HostRuntime, args: &ExploreArgs<'_>) -> Result<Option<Vec<u8>>,
             Ok(Some(text))
         }
         Err(error) => Err(unopened(path, &error, &mut errors)),
+    }
+}
+
+/// The path of the text of the expected outcomes, if the arguments name one.
+fn expected_path<'a>(args: &Args<'a>) -> Option<&'a str>
+    ensures { option_map (λ path. path.now) result ≡ expected_file_of args.now }
+{
+    match *args {
+        Args::Explore(_, args) => match args.told {
+            Told::Verdict(path) => path,
+            _ => None,
+        },
+        _ => None,
     }
 }
 
