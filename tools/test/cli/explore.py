@@ -177,9 +177,9 @@ def progress(suite):
 
 
 def closed_input(suite):
-    """With standard input closed, an exploration ends as a replay does."""
+    """With standard input closed, an exploration ends as a replay that explains itself does."""
     closed = ["sh", "-c", 'exec "$@" <&-', "sh", suite.program]
-    replayed = execute([*closed, "replay", "/dev/stdin"])
+    replayed = execute([*closed, "replay", "--explain", "/dev/stdin"])
     explored = execute([*closed, "explore", "/dev/stdin", "--mesh", "1:0"])
     name = "explore: a closed input, as a replay tells it"
     suite.compare(name, explored, replayed.status, NOTHING, replayed.errors)
