@@ -14,9 +14,10 @@
 //! all scripts' commands.
 #![tactic(auto)]
 
-ghost use Rattle.std.specs.Prelude.{◌≡◌, false, option_map};
+ghost use Rattle.std.specs.Prelude.{◌≡◌, ℕ, List, false, IfOk, IsSome, option_map};
 ghost use Rattle.std.specs.Option.{option_copied};
 ghost use Rattle.meshrun.specs.Paths.{expected_file_of, file_at, file_of};
+ghost use Rattle.meshrun.specs.Runs.{EndsOrUnread};
 ghost use Rattle.run_program.specs.Dispatches.{EndsAs};
 ghost use Rattle.run_program.specs.Runs.{IsSound};
 
@@ -248,6 +249,20 @@ fn run_on<R: Threads + Wait + Sync, I: Source + Drop, O: Sink + Drop, E: Sink + 
     requires output { O.has_failed output ≡ false }
 {
     let devices = Devices::new(input, output, errors);
+    run_devices(asked, devices)
+}
+
+/// Runs the command on these devices, as `run_on` does.
+fn run_devices<R: Threads + Wait + Sync, I: Source + Drop, O: Sink + Drop, E: Sink + Drop>(
+    asked: &Asked<'_, R>,
+    devices: Devices<I, O, E>,
+) -> Ended<I, O, E>
+    requires { IsSound devices }
+    ensures none { expected_file_of asked.now.request.now.args ≡ None
+        → EndsAs asked.now.request.now None devices result.devices result.status }
+    ensures some { (path : List ℕ) → expected_file_of asked.now.request.now.args ≡ Some path
+        → EndsOrUnread asked.now.request.now devices result.devices result.status }
+{
     match expected(asked.rt, &asked.request.args) {
         Ok(Some(text)) => run_expecting(asked, Some(text.as_slice()), devices),
         Ok(None) => run_expecting(asked, None, devices),
@@ -290,7 +305,10 @@ fn is_watched(args: &Args<'_>, is_terminal: bool) -> bool {
 
 /// Returns the text of the expected outcomes, or `None` if the arguments name no such text. If the text can't be read,
 /// the error is the exit status.
-fn expected(rt: &HostRuntime, args: &Args<'_>) -> Result<Option<Vec<u8>>, u8> {
+fn expected(rt: &HostRuntime, args: &Args<'_>) -> Result<Option<Vec<u8>>, u8>
+    ensures none { expected_file_of args.now ≡ None → result ≡ Ok None }
+    ensures some { (path : List ℕ) → expected_file_of args.now ≡ Some path → IfOk result (λ text. IsSome text) }
+{
     let Some(path) = expected_path(args) else {
         return Ok(None);
     };
