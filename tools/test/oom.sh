@@ -279,8 +279,9 @@ spare "$meshrun" explore "$room/no file" --mesh 1:0 --cancel 0
 refuse_each "meshrun explore" \
     replay_fault "$meshrun" explore jobs/explore/cancelled_at_once.job --mesh 1:0 --cancel 0
 outcomes=$wanted
-echo "as expected: $(grep -c '^outcome ' "$outcomes") outcomes" >"$room/verdict"
-echo "never 1: no outcome has answer 1 of worker 1" >>"$room/verdict"
+counted="$(grep -c '^outcome ' "$outcomes") outcomes"
+echo "as expected: $counted" >"$room/verdict"
+echo "never 1: 0 of $counted; no outcome has answer 1 of worker 1" >>"$room/verdict"
 wanted=$room/verdict
 set -- --mesh 1:0 --cancel 0 --expect "$outcomes" --never 'worker 1: byte 00'
 spare "$meshrun" explore "$room/no file" "$@"
