@@ -1,33 +1,28 @@
 #!/usr/bin/env python3
-"""Sends the same random commands to `meshrun live` and to a toy allocator, and stops at the first answer that differs.
+"""Sends the same random commands to `meshrun live` and to a toy allocator, and shrinks the first difference.
 
-    examples/fuzz_live.py PROGRAM [--lines N] [--seed S] [--bug]
+    examples/fuzz_live.py PROGRAM [--lines N] [--seed S] [--bug] [--glibc] [--no-shrink]
 
 PROGRAM is a built `meshrun`. N is the number of lines, 5000 by default; S is the seed of the commands, 1 by default.
 Both heaps mesh while they are used, each at its own times: the proved one by lines of its mesher, the toy by steps of
-its own. What a user of either sees must be the same. Addresses are not compared, since each heap chooses them freely.
-But an object's address must never change while it is live. With --bug the toy doesn't block stores to a span while it
-copies the span.
+its own. What a user of either sees must be the same. With --bug the toy doesn't block stores to a span while it copies
+the span. With --glibc the C library's `malloc` takes the place of the toy.
 
-If all lines agree, prints how many, with status 0. If an answer differs, prints the lines so far as a job file, which
-`meshrun replay` and `meshrun draw` read, and the difference on standard error, with status 1. To test an allocator of
-your own, replace the class Toy (docs/TESTING_AN_ALLOCATOR.md). Needs the standard library only.
+If all lines agree, prints how many, with status 0. If an answer differs, removes the lines that don't matter, in
+sessions of their own, and prints the rest as a job file, which `meshrun replay` and `meshrun draw` read, with status 1.
+The difference, and what led to it on both sides, is printed on standard error. With --no-shrink all lines are printed.
+
+To test an allocator of your own, replace the class Toy (docs/TESTING_AN_ALLOCATOR.md). `live_client.py`, next to this
+file, has the rest.
 """
 
 import argparse
-import collections
-import random
-import subprocess
 import sys
 
-PAGES, HISTORY, WORKERS, CELLS = 64, 65536, 3, 20
-CLASSES = (16, 32, 64, 128, 256, 384, 512, 1024, 1536, 2048)
-MAX_LENGTH = CLASSES[-1]
+import live_client
+
+CLASSES = (16, 32, 64, 128, 256, 512, 1024, 2048)
 PAGE_BYTES = 4096
-
-
-class Refused(Exception):
-    """A refusal, with the number and the name that the proved heap has for it."""
 
 
 class Span:
@@ -36,7 +31,7 @@ class Span:
     def __init__(self, base, slot_bytes):
         self.base = base
         self.slot_bytes = slot_bytes
-        self.slots = {}
+        self.slots = set()
         self.bytes = bytearray(PAGE_BYTES)
         self.home = self
 
@@ -45,125 +40,66 @@ class Span:
         return [k for k in range(PAGE_BYTES // self.slot_bytes) if k not in self.slots]
 
 
-class Toy:
+class Toy(live_client.AllocatorByAddress):
     """An allocator that meshes: it copies a span into another one slot by slot, then both share one page."""
 
     def __init__(self, has_bug):
+        super().__init__()
         self.has_bug = has_bug
         self.spans = []
-        self.objects = []
-        self.cells = {}
         self.mesh = None
         self.meshes = 0
 
-    # The commands, as the proved heap has them.
+    # Its memory.
 
-    def new(self, cell, length, word):
-        if length == 0:
-            raise Refused("1 ZERO")
-        if length > MAX_LENGTH:
-            raise Refused("2 TOO_LARGE")
-        # Three-page classes have no slot of their own here: the toy rounds up to one that divides a page.
-        size = next(c for c in CLASSES if c >= length and PAGE_BYTES % c == 0)
+    def reserve(self, length, word):
+        size = next(c for c in CLASSES if c >= length)
         span = next((s for s in self.spans if s.slot_bytes == size and not self.in_mesh(s) and s.home.free_slots()), None)
         if span is None or word % 4 == 0:
             span = Span(PAGE_BYTES * (len(self.spans) + 1), size)
             self.spans.append(span)
         free = span.home.free_slots()
         slot = free[word % len(free)]
-        serial = len(self.objects)
-        span.home.slots[slot] = serial
-        span.home.bytes[slot * size:(slot + 1) * size] = bytes(size)
-        self.objects.append([span, slot, length])
-        self.cells[cell] = serial
-        return f"object {serial}"
+        span.home.slots.add(slot)
+        self.store(span.base + slot * size, bytes(size))
+        return span.base + slot * size
 
-    def put(self, cell, off, data):
-        data = bytes.fromhex(data)
-        self.store(self.serial_of(cell), off, data)
-        return "done"
-
-    def get(self, cell, off, length):
-        return f"bytes {self.load(self.serial_of(cell), off, length).hex()}"
-
-    def free(self, cell):
-        serial = self.serial_of(cell)
-        span, slot, _ = self.objects[serial]
+    def release(self, address):
+        span, at = self.place_of(address)
         if self.in_mesh(span):
             self.finish_mesh()
-        del span.home.slots[slot]
-        self.objects[serial] = None
-        return "done"
+        span.home.slots.remove(at // span.slot_bytes)
 
-    def alias(self, to, source):
-        self.cells[to] = self.serial_of(source)
-        return "done"
-
-    def addr(self, cell):
-        self.serial_of(cell)
-        return "at"
-
-    def peek(self, serial, off):
-        return f"byte {self.load(serial, off, 1).hex()}"
-
-    def poke(self, serial, off, data):
-        self.store(serial, off, bytes.fromhex(data))
-        return "done"
-
-    def copy(self, to, to_off, source, off, length):
-        target, origin = self.serials_of(to, source)
-        data = self.load(origin, off, length, also=(target, to_off))
-        self.store(target, to_off, data)
-        return "done"
-
-    # Its memory.
-
-    def is_live(self, cell):
-        return cell in self.cells and self.objects[self.cells[cell]] is not None
-
-    def serial_of(self, cell):
-        return self.serials_of(cell)[0]
-
-    def serials_of(self, *cells):
-        if any(cell not in self.cells for cell in cells):
-            raise Refused("5 EMPTY")
-        serials = [self.cells[cell] for cell in cells]
-        if any(self.objects[serial] is None for serial in serials):
-            raise Refused("6 FREED")
-        return serials
-
-    def place(self, serial, off, length):
-        span, slot, size = self.objects[serial]
-        if off + length > size:
-            raise Refused("7 OUTSIDE")
-        return span, slot * span.slot_bytes + off
-
-    def load(self, serial, off, length, also=None):
-        if also is not None:
-            self.place(also[0], also[1], length)
-        span, at = self.place(serial, off, length)
+    def load(self, address, length):
+        span, at = self.place_of(address)
         return bytes(span.home.bytes[at:at + length])
 
-    def store(self, serial, off, data):
-        span, at = self.place(serial, off, len(data))
+    def store(self, address, data):
+        span, at = self.place_of(address)
         if self.in_mesh(span) and not self.has_bug:
             self.finish_mesh()
         span.home.bytes[at:at + len(data)] = data
+
+    def place_of(self, address):
+        """The span of an address, and its place in the bytes of the span's home."""
+        span = self.spans[address // PAGE_BYTES - 1]
+        return span, address - span.base
 
     # Its meshes.
 
     def in_mesh(self, span):
         return self.mesh is not None and span.home in self.mesh[:2]
 
-    def step_mesh(self, rng):
+    def step(self, number):
         """Begins a mesh of two spans with no common occupied slot, or copies a slot of the running mesh, or ends it."""
         if self.mesh is None:
             pages = [s for s in self.spans if s.home is s and s.slots]
-            pairs = [(s, d) for s in pages for d in pages
-                     if s is not d and s.slot_bytes == d.slot_bytes and not s.slots.keys() & d.slots.keys()]
-            if pairs:
-                self.mesh = (*rng.choice(pairs), [])
-                self.mesh[2].extend(self.mesh[0].slots)
+            first = number % max(1, len(pages))
+            pairs = ((s, d) for s in pages[first:] + pages[:first] for d in pages
+                     if s is not d and s.slot_bytes == d.slot_bytes and not s.slots & d.slots)
+            source, target = next(pairs, (None, None))
+            if source is not None:
+                self.mesh = source, target, sorted(source.slots)
         elif self.mesh[2]:
             self.copy_slot()
         else:
@@ -178,165 +114,12 @@ class Toy:
         source, target, left = self.mesh
         while left:
             self.copy_slot()
-        target.slots.update(source.slots)
+        target.slots |= source.slots
         for span in self.spans:
             if span.home is source:
                 span.home = target
         self.mesh = None
         self.meshes += 1
-
-
-class Live:
-    """A running `meshrun live`, with the lines that were sent and their answers."""
-
-    def __init__(self, program):
-        words = [program, "live", "--pages", str(PAGES), "--history", str(HISTORY), "--workers", str(WORKERS)]
-        self.process = subprocess.Popen(words, stdin=subprocess.PIPE, stdout=subprocess.PIPE, text=True, bufsize=1)
-        self.asked = []
-
-    def ask(self, line):
-        self.process.stdin.write(line + "\n")
-        self.process.stdin.flush()
-        answer = self.process.stdout.readline()
-        if not answer.endswith("\n"):
-            sys.exit(f"{line}: no answer")
-        self.asked.append((line, answer[:-1]))
-        return answer[:-1]
-
-    def end(self):
-        self.process.stdin.close()
-        return self.process.wait()
-
-    def job(self):
-        """The lines as a job file. A blocked command is in its script once; the plan retries it."""
-        scripts = [[] for _ in range(WORKERS)]
-        blocked = [False] * WORKERS
-        plan = []
-        for line, answer in self.asked:
-            word, _, rest = line.partition(" ")
-            if word == "run":
-                worker, _, command = rest.partition(" ")
-                worker = int(worker)
-                if not blocked[worker]:
-                    scripts[worker].append(command)
-                blocked[worker] = answer == "blocked"
-                line = f"run {worker}"
-            plan.append(line)
-        head = ["mesh 2", f"pages {PAGES}", f"history {HISTORY}", f"workers {WORKERS}"]
-        body = [text for worker, script in enumerate(scripts) for text in (f"worker {worker}", *script)]
-        return "\n".join([*head, *body, "plan", *plan, "end"]) + "\n"
-
-
-class Fuzz:
-    """The two heaps and the random commands for both."""
-
-    def __init__(self, live, toy, rng):
-        self.live, self.toy, self.rng = live, toy, rng
-        self.bases = {}
-        self.waiting = {}
-        self.pairs = []
-        self.running = set()
-        self.stores = collections.deque(maxlen=40)
-
-    def line(self):
-        """Sends one line. Returns what differs, or None."""
-        if self.toy.mesh is None or self.rng.random() < 0.1:
-            self.toy.step_mesh(self.rng)
-        if self.rng.random() < 0.35:
-            return self.mesher_line()
-        worker = self.rng.randrange(WORKERS)
-        command, toy_call = self.waiting.pop(worker, None) or self.command()
-        answer = self.live.ask(f"run {worker} {command}")
-        if answer == "blocked":
-            self.waiting[worker] = (command, toy_call)
-            return None
-        return self.compare(command, answer, toy_call)
-
-    def compare(self, command, answer, toy_call):
-        if answer in ("refused 3 NO_PAGES", "refused 4 NO_ADDRESSES", "history full"):
-            return None
-        if answer.startswith(("object ", "at ")):
-            answer, address = self.without_address(answer)
-            serial = int(answer.split()[1]) if answer.startswith("object ") else self.toy.cells[int(command.split()[1])]
-            if self.bases.setdefault(serial, address) != address:
-                return f"{command}: the address of object {serial} changed"
-        try:
-            wanted = toy_call()
-        except Refused as refused:
-            wanted = f"refused {refused}"
-        return None if answer == wanted else f"{command}: {answer!r} of the proved heap, {wanted!r} of the toy"
-
-    @staticmethod
-    def without_address(answer):
-        words = answer.split()
-        return " ".join(words[:-2]) if words[0] == "object" else "at", int(words[-1], 16)
-
-    def command(self):
-        """A random command: its text, and the toy's call for it."""
-        rng, toy = self.rng, self.toy
-        cell, other = rng.randrange(CELLS), rng.randrange(CELLS)
-        off, length = rng.choice((0, 0, rng.randrange(40), rng.randrange(2100))), rng.randint(1, 32)
-        data = rng.randbytes(rng.randint(1, 8)).hex()
-        kind = rng.choices(("new", "put", "get", "free", "alias", "addr", "peek", "poke", "copy"), (12, 10, 10, 6, 1, 1, 2, 2, 2))[0]
-        if kind in ("new", "alias") and toy.is_live(cell):
-            kind = "free" if rng.random() < 0.4 else "put"
-        if kind == "new":
-            size, word = rng.choice((500, 1000, 2048, rng.randrange(2100))), rng.getrandbits(16)
-            return f"new {cell} {size} {word}", lambda: toy.new(cell, size, word)
-        if kind == "put":
-            self.stores.append((cell, off, len(data) // 2))
-            return f"put {cell} {off} {data}", lambda: toy.put(cell, off, data)
-        if kind == "get":
-            if self.stores and rng.random() < 0.7:
-                cell, off, length = rng.choice(self.stores)
-            return f"get {cell} {off} {length}", lambda: toy.get(cell, off, length)
-        if kind == "alias":
-            return f"alias {cell} {other}", lambda: toy.alias(cell, other)
-        if kind == "addr":
-            return f"addr {cell}", lambda: toy.addr(cell)
-        if kind == "copy":
-            return f"copy {cell} {off} {other} {off // 2} {length}", lambda: toy.copy(cell, off, other, off // 2, length)
-        if kind == "free":
-            if toy.cells.get(cell) not in self.held():
-                return f"free {cell}", lambda: toy.free(cell)
-            return f"addr {cell}", lambda: toy.addr(cell)
-        return self.by_address(kind, data)
-
-    def by_address(self, kind, data):
-        """A load or a store of a byte at an address of a live object."""
-        live = [serial for serial, place in enumerate(self.toy.objects) if place is not None]
-        if not live:
-            return "peek 0", lambda: "refused 8 STRAY"
-        serial = self.rng.choice(live)
-        off = self.rng.randrange(self.toy.objects[serial][2])
-        address = self.bases[serial] + off
-        if kind == "peek":
-            return f"peek {address:x}", lambda: self.toy.peek(serial, off)
-        call = lambda: self.toy.poke(serial, off, data[:2])
-        call.serial = serial
-        return f"poke {address:x} {data[:2]}", call
-
-    def held(self):
-        """The objects of blocked stores by address. They must not be freed meanwhile, since an address may be reused."""
-        return {call.serial for _, call in self.waiting.values() if hasattr(call, "serial")}
-
-    def mesher_line(self):
-        """Searches for a pair, begins a mesh, makes a step, or cancels, in the proved heap only. Nothing is compared."""
-        rng = self.rng
-        if self.running and rng.random() < 0.8:
-            size = rng.choice(sorted(self.running))
-            answer = self.live.ask(f"{'cancel' if rng.random() < 0.05 else 'step'} {size}")
-            if answer.endswith("left 0"):
-                self.running.discard(size)
-        elif self.pairs:
-            size, source, target = self.pairs.pop()
-            if self.live.ask(f"begin {source} {target}").startswith("left "):
-                self.running.add(size)
-        else:
-            size = rng.choice((512, 1024, 2048))
-            found = self.live.ask(f"pair {size} 8 {rng.getrandbits(16)} {rng.getrandbits(16)}").split()
-            self.pairs = [(size, *pair.split(":")) for pair in found[4:]]
-        return None
 
 
 def main():
@@ -345,19 +128,37 @@ def main():
     parser.add_argument("--lines", type=int, default=5000)
     parser.add_argument("--seed", type=int, default=1)
     parser.add_argument("--bug", action="store_true", help="don't let the toy block stores to a span while it copies the span")
+    parser.add_argument("--glibc", action="store_true", help="compare with the C library's malloc instead of the toy")
+    parser.add_argument("--no-shrink", action="store_true", help="print all lines up to the difference")
     args = parser.parse_args()
-    live = Live(args.program)
-    fuzz = Fuzz(live, Toy(args.bug), random.Random(args.seed))
-    for _ in range(args.lines):
-        differs = fuzz.line()
-        if differs is not None:
-            print(live.job(), end="")
-            sys.exit(differs)
-    if live.end() != 0:
-        sys.exit("the session did not end well")
-    blocked = sum(answer == "blocked" for _, answer in live.asked)
-    remapped = sum(answer.startswith("remap ") for _, answer in live.asked)
-    print(f"{args.lines} lines agreed: {blocked} blocked and {remapped} pages remapped by the one, {fuzz.toy.meshes} meshes by the other")
+
+    def start():
+        allocator = live_client.GlibcAllocator() if args.glibc else Toy(args.bug)
+        return live_client.Comparison(live_client.Session(args.program), allocator)
+
+    with start() as comparison:
+        entries, difference = live_client.fuzz(comparison, args.seed, args.lines)
+        if comparison.session.end() != 0:
+            sys.exit("the session did not end well")
+    if difference is None:
+        print(summary(comparison))
+        return
+    shrunk = None if args.no_shrink else live_client.shrink(entries, difference, start)
+    print(comparison.session.job() if shrunk is None else shrunk.job, end="")
+    sys.exit(str(difference) if shrunk is None else shrunk.report())
 
 
-main()
+def summary(comparison):
+    """What happened on both sides while all answers agreed."""
+    answers = [answer for _, answer in comparison.session.asked]
+    blocked = answers.count("blocked")
+    remapped = sum(answer.startswith("remap ") for answer in answers)
+    meshes = getattr(comparison.allocator, "meshes", 0)
+    return f"{len(answers)} lines agreed: {blocked} blocked and {remapped} pages remapped by the one, {meshes} meshes by the other"
+
+
+if __name__ == "__main__":
+    try:
+        main()
+    except live_client.SessionError as error:
+        sys.exit(str(error))
