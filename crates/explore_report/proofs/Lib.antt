@@ -7,6 +7,7 @@ pub mod FoundOutcomes
 pub mod Kept
 pub mod ListingTexts
 pub mod NotedAnswers
+pub mod OutcomeCounts
 pub mod OutcomeTexts
 pub mod Paths
 pub mod Phases

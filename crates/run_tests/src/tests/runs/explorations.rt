@@ -14,7 +14,7 @@ const STORE_FILE: &str =
 
 /// The expected job file that leads to the second outcome of the small exploration.
 const SECOND: &str =
-    "mesh 1\npages 16\nhistory 64\nworkers 2\nworker 0\nnew 0 2048 0\nnew 1 2048 0\nnew 2 2048 0\nnew 3 2048 0\nfree 0\nfree 3\nput 2 0 aa\nget 2 0 1\nworker 1\nget 2 0 1\nplan\nrun 0\nrun 0\nrun 0\nrun 0\nrun 0\nrun 0\nrun 1\nrun 0\nrun 0\nbegin 1 0\nstep\nstep\nstep\nstep\nstep\nstep\nend\n";
+    "mesh 1\npages 16\nhistory 64\nworkers 2\nworker 0\nnew 0 2048 0\nnew 1 2048 0\nnew 2 2048 0\nnew 3 2048 0\nfree 0\nfree 3\nput 2 0 aa\nget 2 0 1\nworker 1\nget 2 0 1\nplan\nrun 0\nrun 0\nrun 0\nrun 0\nrun 0\nrun 0\nrun 1\nrun 0\nbegin 1 0\nstep\nstep\nstep\nstep\nstep\nstep\nrun 0\nend\n";
 
 /// The outcomes of the small exploration, as the expected outcomes of a verdict.
 const LISTED: &str =
@@ -22,7 +22,7 @@ const LISTED: &str =
 
 /// The verdict on the small exploration if its second outcome is forbidden.
 const FORBIDDEN: &str =
-    "never 1: 1 of 2 outcomes\noutcome 1 of 44 interleavings\n  worker 0: done | bytes aa\n  worker 1: bytes 00\n  end: mesh 1:0 over\n  plan: run 1, run 0, run 0, begin 1 0, step times 6\n";
+    "never 1: 1 of 2 outcomes\noutcome 1 of 44 interleavings\n  worker 0: done | bytes aa\n  worker 1: bytes 00\n  end: mesh 1:0 over\n  plan: run 1, run 0, begin 1 0, step times 6, run 0\n";
 
 /// Runs the small exploration with a mesh of the groups 1 and 0. `line` is the command line, with a `/` between two
 /// words.
