@@ -14,7 +14,7 @@
 //! all scripts' commands.
 #![tactic(auto)]
 
-ghost use Rattle.std.specs.Prelude.{◌≡◌, ℕ, List, false, IfOk, IsSome, option_map};
+ghost use Rattle.std.specs.Prelude.{◌≡◌, ℕ, List, false, IfErr, IfOk, IsSome, option_map};
 ghost use Rattle.std.specs.Option.{option_copied};
 ghost use Rattle.meshrun.specs.Paths.{expected_file_of, file_at, file_of};
 ghost use Rattle.meshrun.specs.Runs.{EndsOrUnread};
@@ -184,7 +184,9 @@ fn run_file<R: Threads + Wait + Sync, O: Sink + Drop, E: Sink + Drop>(
 }
 
 /// Writes that the file at the path can't be opened, and why. Returns the exit status.
-fn unopened<E: Sink>(path: &str, error: &io::Error, errors: &mut E) -> u8 {
+fn unopened<E: Sink>(path: &str, error: &io::Error, errors: &mut E) -> u8
+    ensures { result ≡ 1 }
+{
     let status = unopened_run(errors);
     unopened_reason_run(path, error, errors);
     status
@@ -304,10 +306,11 @@ fn is_watched(args: &Args<'_>, is_terminal: bool) -> bool {
 }
 
 /// Returns the text of the expected outcomes, or `None` if the arguments name no such text. If the text can't be read,
-/// the error is the exit status.
+/// the error is the exit status, 1.
 fn expected(rt: &HostRuntime, args: &Args<'_>) -> Result<Option<Vec<u8>>, u8>
     ensures none { expected_file_of args.now ≡ None → result ≡ Ok None }
     ensures some { (path : List ℕ) → expected_file_of args.now ≡ Some path → IfOk result (λ text. IsSome text) }
+    ensures unread { IfErr result (λ status. status ≡ 1) }
 {
     let Some(path) = expected_path(args) else {
         return Ok(None);

@@ -2,6 +2,8 @@
 use Rattle.std.proofs.Common.{◌≡◌, ◌≤◌, ℕ, Bool, true, List, Option, Result, Ok, Err, IfErr, arith, inr, refl}
 use Rattle.model_jobs.specs.Texts.{ended}
 use Rattle.run_command_line.specs.declared.explore_args.ExploreArgs.{ExploreArgs}
+use Rattle.text_devices.specs.Transfer.{HasNotReadAll}
+use Rattle.text_devices.specs.declared.faults.ReplayError.{ReplayError}
 use Rattle.text_devices.specs.declared.faults.ReplayError.TheVariants.{Read, Write, Memory, Text}
 use Rattle.explore_interleavings.specs.declared.pair.MeshPair.{MeshPair}
 use Rattle.explore_report.specs.Explorations.{HasTooMany}
@@ -11,9 +13,17 @@ use Rattle.explore_report.specs.declared.wanted.Wanted.{Wanted}
 use Rattle.run_program.specs.Explores.{EndsListing, EndsVerdict, HasFailedExplore, HasFailedVerdict, HasStoppedExplore, HasStoppedVerdict, explore_status, explore_text, meshes_of, verdict_status, verdict_text}
 use Rattle.run_program.specs.Runs.{HasTold}
 use Rattle.run_program.specs.Seen.{Seen}
+use Rattle.run_program.specs.Status.{status_of_error}
 use Rattle.run_program.specs.declared.criteria.Criteria.{Criteria}
 use Rattle.run_program.specs.declared.verdict_error.VerdictError.{VerdictError}
 use Rattle.run_program.specs.declared.verdict_error.VerdictError.TheVariants.{Explore, NoCondition, NoList, Unmatched}
+
+-- the status is 1 where a text wasn't read to its end
+pub unread_status : (failed : Bool) (error : ReplayError) → HasNotReadAll failed error → status_of_error error ≡ 1
+unread_status failed Read is = refl
+unread_status failed Memory is = refl
+unread_status failed Write is = absurd is
+unread_status failed (Text fault) is = absurd is
 
 -- ---- what is known of an error
 

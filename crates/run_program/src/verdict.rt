@@ -18,7 +18,7 @@ use std::alloc::Global;
 use text_devices::{Sink, Source, read_all};
 
 /// Reads the text of the expected outcomes. If reading fails, writes the reason to `errors`. The error is then the exit
-/// status.
+/// status, which is 1.
 pub fn expected_run<I: Source, E: Sink>(
     alloc: Global,
     input: &mut I,
@@ -28,6 +28,7 @@ pub fn expected_run<I: Source, E: Sink>(
     ensures text { IfOk result (λ text. HasReadAll (I.remaining input.old) (I.remaining input.new) text.items) }
     ensures unread { IfErr result
         (IsUnreadFor (I.has_failed input.new) (E.has_failed errors.new) (E.written errors.old) (E.written errors.new)) }
+    ensures status { IfErr result (λ status. status ≡ 1) }
 {
     match read_all(alloc, input) {
         Ok(text) => Ok(text),
