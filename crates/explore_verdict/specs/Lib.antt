@@ -1,4 +1,5 @@
 pub mod Answers
+pub mod Beginnings
 pub mod Begun
 pub mod Conditions
 pub mod Expected

@@ -1,30 +1,18 @@
 -- Why no outcome of a job can match a pattern. This project's own choice.
-use Rattle.std.specs.Prelude.{◌≡◌, ℕ, ◌-◌, Bool, not, ◌&&◌, ◌||◌, if◌then◌else◌, nat_le, nat_lt, List, [], ◌∷◌, Option, Some, None, codes, is_ok, length, option_map, slice_get, slice_index}
-use Rattle.std.specs.List.{list_all, list_any}
+use Rattle.std.specs.Prelude.{◌≡◌, ℕ, ◌-◌, Bool, ◌||◌, if◌then◌else◌, nat_le, nat_lt, List, [], ◌∷◌, Option, Some, None, length, option_map, slice_get, slice_index}
+use Rattle.std.specs.List.{list_all}
 use Rattle.std.specs.Option.{option_or}
-use Rattle.model_jobs.specs.JobFiles.{are_same, is_empty}
-use Rattle.text_fields.specs.Lines.{line_fields}
-use Rattle.text_words.specs.ReplyWords.{answer_in}
 use Rattle.explore_interleavings.specs.ExploreStates.{ExploreState, Setting, script_of}
+use Rattle.explore_verdict.specs.Beginnings.{is_begun, is_spelt}
 use Rattle.explore_verdict.specs.Patterns.{Clause, Wanted, inner}
 use Rattle.explore_verdict.specs.declared.condition.Condition.{Condition}
 use Rattle.explore_verdict.specs.declared.mismatches.Mismatch.{Mismatch}
 use Rattle.explore_verdict.specs.declared.mismatches.Unmatchable.{Unmatchable}
 use Rattle.explore_verdict.specs.declared.mismatches.Mismatch.TheVariants.{NoWorker, NoAnswer, TooManyAnswers}
 
--- whether the text spells an answer. An answer has at most four fields
-abbrev pub is_spelt : List ℕ → Bool
-is_spelt text = not (list_any is_empty (line_fields text)) && (nat_le (length (line_fields text)) 4 && is_ok (answer_in (line_fields text)))
-
--- whether the text stands for any answer, or for any answer of this word
-abbrev pub is_any : List ℕ → Bool
-is_any text =
-    are_same text (codes "*") || (are_same text (codes "bytes *") || (are_same text (codes "byte *") || (are_same text (codes "at *")
-    || (are_same text (codes "object *") || are_same text (codes "refused *")))))
-
--- whether a reply can match the piece: an answer, or what stands for any, between two spaces
+-- whether a reply can match the piece: an answer, or the beginning of one and a star, between two spaces
 abbrev pub is_answer : List ℕ → Bool
-is_answer piece = is_any (inner piece) || is_spelt (inner piece)
+is_answer piece = is_spelt (inner piece) || is_begun (inner piece)
 
 -- the number of commands that are left for a worker in a state
 abbrev pub commands_left : Setting → ExploreState → ℕ → ℕ

@@ -4,6 +4,7 @@
 #![tactic(auto)]
 
 mod answers;
+mod beginnings;
 pub mod begun;
 mod block;
 mod clause;

@@ -72,7 +72,7 @@ fn are_met(alloc: Global, pieces: &[Block], replies: &[Reply]) -> Result<bool, A
 }
 
 /// Whether the piece is the reply's text with a space before and after it, or a beginning of this text and a star, as
-/// ` bytes * ` or ` * `.
+/// ` bytes a* ` or ` * `.
 pub(crate) fn is_met(alloc: Global, piece: &[u8], reply: &Reply) -> Result<bool, AllocError>
     ensures { IfOk result (λ is. is ≡ is_met piece.now reply.now) }
 {

@@ -115,15 +115,30 @@ Condition condition(const std::string &name, const std::string &text) {
     return read;
 }
 
-// Whether a text is spelt as an answer, or as a pattern of answers.
-bool is_answer(const std::string &text) {
-    static const std::regex FORM(
-        "\\*|(bytes|byte|at|object|refused) \\*|done|bytes ([0-9a-f]{2}){1,32}|byte [0-9a-f]{2}|"
-        "(object (0|[1-9][0-9]{0,9}) )?at (0|[1-9a-f][0-9a-f]{0,6})");
+// Whether a text is spelt as an answer.
+bool is_spelt(const std::string &text) {
+    static const std::regex FORM("done|bytes ([0-9a-f]{2}){1,32}|byte [0-9a-f]{2}|"
+                                 "(object (0|[1-9][0-9]{0,9}) )?at (0|[1-9a-f][0-9a-f]{0,6})");
     for (int number = 1; number <= 17; number++)
         if (text == "refused " + std::to_string(number) + " " + NM[number])
             return true;
     return std::regex_match(text, FORM);
+}
+
+// Whether some answer begins with a text.
+bool begins_answer(const std::string &text) {
+    static const std::regex FORM("(d(o(ne?)?)?)?|b(y(t(e(s( [0-9a-f]{0,64})?| [0-9a-f]{0,2})?)?)?)?|"
+                                 "o(b(j(e(ct?)?)?)?)?|object ((0|[1-9][0-9]{0,9})( a?)?)?|"
+                                 "(object (0|[1-9][0-9]{0,9}) )?(a|at|at (0|[1-9a-f][0-9a-f]{0,6})?)");
+    for (int number = 1; number <= 17; number++)
+        if (begins("refused " + std::to_string(number) + " " + NM[number], text))
+            return true;
+    return std::regex_match(text, FORM);
+}
+
+// Whether a text is spelt as an answer, or is the beginning of one and a star.
+bool is_answer(const std::string &text) {
+    return is_spelt(text) || (text.back() == '*' && begins_answer(text.substr(0, text.size() - 1)));
 }
 
 // Throws the first fault of a condition in a job whose workers have so many commands left.
@@ -141,7 +156,7 @@ void check(const Condition &condition, const std::vector<size_t> &commands_left)
     }
 }
 
-// Whether an answer matches `*`, `WORD *` or the same answer.
+// Whether an answer is the same, or begins as the pattern does before its star.
 bool answer_matches(const std::string &pattern, const std::string &answer) {
     if (pattern == "*" || pattern == answer)
         return true;
