@@ -109,7 +109,7 @@ fn number_of(actor: Actor) -> u32 {
 fn number_at(point: Point) -> u32 {
     match point {
         Point::Called(i) | Point::Reading(i) => i,
-        Point::Begun => 0,
+        Point::Begun | Point::Ended => 0,
         Point::Stepped(kind, left) => left.max(place_of(kind)),
         Point::Class(size) => size,
     }

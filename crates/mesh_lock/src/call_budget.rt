@@ -1,12 +1,12 @@
 //! `CallBudget`: the number of calls allowed, and the number made.
-ghost use Rattle.std.specs.Prelude.{◌≡◌, ℕ, ◌≤◌, ◌↔◌, suc, IsTrue, Some};
+ghost use Rattle.std.specs.Prelude.{◌≡◌, ℕ, ◌≤◌, ◌↔◌, suc, min, IsTrue, Some};
 
 /// The number of calls allowed, and the number made. If there is a limit, the number made is never above the limit.
 #[derive(Clone, Copy)]
 pub struct CallBudget {
     /// The number of calls allowed. `None` if there is no limit.
     pub most: Option<u32>,
-    /// The number of calls made, if there is a limit.
+    /// The number of calls made. Stays at `u32::MAX` if there is no limit and that many calls were made.
     pub made: u32,
     pub ghost within: { (n : ℕ) → most ≡ Some n → made ≤ n },
 }
@@ -27,14 +27,16 @@ impl CallBudget {
         self.most == Some(self.made)
     }
 
-    /// Counts one more call, if there is a limit. Requires that the budget isn't used up.
+    /// Counts one more call. Requires that the budget isn't used up.
     pub fn spend(&mut self)
         requires { self.old.most ≡ Some self.old.made → ⊥ }
         ensures most { self.new.most ≡ self.old.most }
         ensures made { (n : ℕ) → self.old.most ≡ Some n → self.new.made ≡ suc self.old.made }
+        ensures counted { self.new.made ≡ min 4294967295 (suc self.old.made) }
     {
-        if let Some(_most) = self.most {
-            self.made += 1;
+        match self.most {
+            Some(_most) => self.made += 1,
+            None => self.made = self.made.saturating_add(1),
         }
     }
 }

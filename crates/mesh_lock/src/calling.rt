@@ -1,5 +1,5 @@
 //! `Mutator`: the calls of a mutator on a shared book, with a gate at its reads.
-ghost use Rattle.std.specs.Prelude.{◌≡◌, ◌↔◌, ◌<◌, ◌≤◌, length, None, IsTrue, true};
+ghost use Rattle.std.specs.Prelude.{◌≡◌, ◌↔◌, ◌<◌, ◌≤◌, length, min, suc, None, IsTrue, true};
 ghost use Rattle.model_words.specs.Commands.{IsInRange};
 ghost use Rattle.model_memory.specs.Reads.{is_read};
 ghost use Rattle.mesh_mutator.specs.declared.attempts.Attempt.{Attempt};
@@ -69,7 +69,8 @@ impl<'a, R: Wait, G: Gate> Mutator<'a, R, G> {
     }
 
     /// Makes attempts until one isn't Blocked or the tries are used up, and returns the last attempt. At least one try
-    /// must be left before the call. If the result is Blocked, each attempt was Blocked.
+    /// must be left before the call. Each attempt is counted in `tries`, and each but the last was Blocked. If the
+    /// result is Blocked, the last one was too.
     pub fn retry_up_to(&self, seat: &mut Seat, command: &Command, tries: &mut CallBudget) -> Attempt
         requires range { IsInRange command.now }
         requires some { IsUsedUp tries.old → ⊥ }
@@ -79,6 +80,7 @@ impl<'a, R: Wait, G: Gate> Mutator<'a, R, G> {
             → (result ≡ Attempt.HistoryFull) ↔ (seat.old.room ≤ length seat.old.calls) }
         ensures spent { result ≡ Attempt.Blocked → IsUsedUp tries.new }
         ensures most { tries.new.most ≡ tries.old.most }
+        ensures counted { min 4294967295 (suc tries.old.made) ≤ tries.new.made }
         ensures not_blocked { tries.old.most ≡ None → result ≡ Attempt.Blocked → ⊥ }
     {
         for _ in self.rt.forever() {

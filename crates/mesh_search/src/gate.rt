@@ -26,6 +26,8 @@ pub enum Point {
     /// A worker has taken the shared lock and is inside a reading call. The number is the call's place among all calls
     /// of the worker, counted from 0.
     Reading(u32),
+    /// A mesher has ended: it makes no call any more.
+    Ended,
 }
 
 /// A hook that threads call at each point. The call may wait, and its contract promises nothing.

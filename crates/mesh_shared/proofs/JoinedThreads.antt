@@ -7,7 +7,7 @@ use Rattle.model_memory.specs.Reads.{Kept, kept_by}
 use Rattle.model_words.specs.declared.commands.Command.{Command}
 use Rattle.mesh_shared.specs.Joined.{AreAtWork, AreMeshing, HaveMeshed, HaveServed, stops_of}
 use Rattle.mesh_shared.specs.MesherRuns.{AreMeshed, HasMeshed}
-use Rattle.mesh_shared.specs.Runs.{AreServed, HasEnded, HasWorked, IsBeginning, commands_in, script_of}
+use Rattle.mesh_shared.specs.Runs.{AreServed, HasBlocked, HasEnded, HasWorked, IsBeginning, commands_in, script_of}
 use Rattle.mesh_lock.specs.Seat.{Seat, calls_of_seats}
 use Rattle.mesh_shared.specs.Stops.{first_stop}
 use Rattle.mesh_shared.specs.declared.mesher.Meshed.{Meshed}
@@ -42,11 +42,11 @@ all_kept {T} {P} Keeps handles given promised w h d below =
 -- where each worker kept the promise of its handle
 pub have_served : (handles : List (PromisedHandle Served Works)) (served : List Served) → length served ≡ length handles
     → ((w : ℕ) (d : Served) → w < length handles → (h : PromisedHandle Served Works) × (h ≡ slice_index_or handles w h)
-    × HasWorked h.promise.tries h.promise.script.now (slice_index_or served w d).seat.calls (slice_index_or served w d).worked.tried (slice_index_or served w d).stop)
+    × HasWorked h.promise.tries h.promise.script.now (slice_index_or served w d).seat.calls (slice_index_or served w d).worked (slice_index_or served w d).stop)
     → HaveServed handles served
 have_served handles served many worked = record {
   many = many;
-  kept = all_kept (λ p one. HasWorked p.tries p.script.now one.seat.calls one.worked.tried one.stop) handles served worked;
+  kept = all_kept (λ p one. HasWorked p.tries p.script.now one.seat.calls one.worked one.stop) handles served worked;
 }
 
 -- where each mesher kept the promise of its handle
@@ -75,7 +75,7 @@ worked_at : (tries : Option ℕ) (scripts : List (List Command)) (handles : List
     → HaveServed handles served → AreAtWork tries scripts handles → first_stop (map (λ one. one.stop) served) ≡ None → (w : ℕ) → w < length scripts
     → (one : Served) × (kept_by (calls_of_seats (map (λ one. one.seat) served)) w ≡ one.seat.calls)
     × ((d : Worked) → slice_index_or (map (λ one. one.worked) served) w d ≡ one.worked)
-    × HasWorked tries (script_of scripts w) one.seat.calls one.worked.tried None
+    × HasWorked tries (script_of scripts w) one.seat.calls one.worked None
 worked_at tries scripts handles served have work none w below =
     let within : w < length handles = omega (arith, work.many, below) in
     let given : w < length served = omega (arith, have.many, within) in
@@ -84,14 +84,14 @@ worked_at tries scripts handles served have work none w below =
     let h : PromisedHandle Served Works = there handles w within in
     let its = work.each w h within in
     let ended : one.stop ≡ None = ap (λ (x : Served). x.stop) (sym found.1) ∙ none_stopped (λ (x : Served). x.stop) served w one none given in
-    let did : HasWorked (slice_index_or handles w h).promise.tries (slice_index_or handles w h).promise.script.now one.seat.calls one.worked.tried one.stop
-    = subst (λ (x : Served). HasWorked (slice_index_or handles w h).promise.tries (slice_index_or handles w h).promise.script.now x.seat.calls x.worked.tried x.stop)
+    let did : HasWorked (slice_index_or handles w h).promise.tries (slice_index_or handles w h).promise.script.now one.seat.calls one.worked one.stop
+    = subst (λ (x : Served). HasWorked (slice_index_or handles w h).promise.tries (slice_index_or handles w h).promise.script.now x.seat.calls x.worked x.stop)
     found.1 (have.kept w h one within) in
-    let of_tries : HasWorked tries (slice_index_or handles w h).promise.script.now one.seat.calls one.worked.tried one.stop
-    = subst (λ (t : Option ℕ). HasWorked t (slice_index_or handles w h).promise.script.now one.seat.calls one.worked.tried one.stop) its.0 did in
-    let of_script : HasWorked tries (script_of scripts w) one.seat.calls one.worked.tried one.stop
-    = subst (λ (l : List Command). HasWorked tries l one.seat.calls one.worked.tried one.stop) its.1 of_tries in
-    (one, found.2, found.3, subst (λ (x : Option EarlyExit). HasWorked tries (script_of scripts w) one.seat.calls one.worked.tried x) ended of_script)
+    let of_tries : HasWorked tries (slice_index_or handles w h).promise.script.now one.seat.calls one.worked one.stop
+    = subst (λ (t : Option ℕ). HasWorked t (slice_index_or handles w h).promise.script.now one.seat.calls one.worked one.stop) its.0 did in
+    let of_script : HasWorked tries (script_of scripts w) one.seat.calls one.worked one.stop
+    = subst (λ (l : List Command). HasWorked tries l one.seat.calls one.worked one.stop) its.1 of_tries in
+    (one, found.2, found.3, subst (λ (x : Option EarlyExit). HasWorked tries (script_of scripts w) one.seat.calls one.worked x) ended of_script)
 
 -- where all scripts are at work and nothing stopped a worker, all are served
 pub all_served : (tries : Option ℕ) (scripts : List (List Command)) (handles : List (PromisedHandle Served Works)) (served : List Served) (seats : List Seat)
@@ -112,6 +112,11 @@ all_served tries scripts handles served seats workers have work none are_seats a
       let told : slice_index_or workers w d ≡ one.worked = ap (λ (l : List Worked). slice_index_or l w d) are_workers ∙ its.2 d in
       subst (λ (l : List Kept). HasEnded tries (script_of scripts w) (commands_in l) (slice_index_or workers w d).tried) (sym (kept w one its.1))
       (subst (λ (x : Worked). HasEnded tries (script_of scripts w) (commands_in one.seat.calls) x.tried) (sym told) (its.3.ended refl));
+  blocked = λ w d below.
+      let its = worked_at tries scripts handles served have work none w below in
+      let one : Served = its.0 in
+      let told : slice_index_or workers w d ≡ one.worked = ap (λ (l : List Worked). slice_index_or l w d) are_workers ∙ its.2 d in
+      subst (λ (x : Worked). HasBlocked (script_of scripts w) x) (sym told) its.3.blocked;
 }
   where
     kept : (w : ℕ) (one : Served) → kept_by (calls_of_seats (map (λ one. one.seat) served)) w ≡ one.seat.calls → kept_by (calls_of_seats seats) w ≡ one.seat.calls

@@ -1,5 +1,6 @@
 mod AnsweredRuns
 mod JoinedThreads
+mod MesherCounts
 mod RunExamples
 mod SeveralStops
 mod ToldStops

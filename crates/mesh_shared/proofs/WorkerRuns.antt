@@ -41,35 +41,47 @@ some_tries most tries same none some made =
     let low : 1 ≤ 0 = subst (λ (m : Option ℕ). IfSome m (λ n. 1 ≤ n)) zero some in
     absurd (omega (arith, low))
 
+-- a script that has a command isn't empty
+some_command : (k : ℕ) (script : List Command) → k < length script → script ≡ [] → ⊥
+some_command k script below empty = let none = ap (λ (l : List Command). length l) empty in omega (arith, below, none)
+
 -- a worker that was stopped before its script's end
-pub worked_partly : (tries : Option ℕ) (k : ℕ) (script : List Command) (old new : Seat) (tried : ℕ) (stop : EarlyExit)
-    → commands_in old.calls ≡ take k script → new ≡ old → HasWorked tries script new.calls tried (Some stop)
-worked_partly tries k script old new tried stop is same = record {
+pub worked_partly : (tries : Option ℕ) (k : ℕ) (script : List Command) (old new : Seat) (blocked : ℕ) (stop : EarlyExit)
+    → commands_in old.calls ≡ take k script → new ≡ old → k < length script → HasWorked tries script new.calls (record { tried = 0; blocked = blocked }) (Some stop)
+worked_partly tries k script old new blocked stop is same below = record {
   begun = begins k script (commands_in new.calls) (ap (λ (s : Seat). commands_in s.calls) same ∙ is);
   whole = λ no_end none. absurd (cc none);
   ended = λ none. absurd (cc none);
+  blocked = record { none = λ empty. absurd (some_command k script below empty); given_up = omega arith };
 }
 
 -- a worker that gave up a command after all its tries
-pub gave_up : (tries : Option ℕ) (k : ℕ) (script : List Command) (old new : Seat) (tried : ℕ)
-    → commands_in old.calls ≡ take k script → new ≡ old → k < length script → tries ≡ Some tried → HasWorked tries script new.calls tried None
-gave_up tries k script old new tried is same below all =
+pub gave_up : (tries : Option ℕ) (k : ℕ) (script : List Command) (old new : Seat) (told : Worked)
+    → commands_in old.calls ≡ take k script → new ≡ old → k < length script → tries ≡ Some told.tried → told.tried ≤ told.blocked
+    → HasWorked tries script new.calls told None
+gave_up tries k script old new told is same below all blocked =
     let its : commands_in new.calls ≡ take k script = ap (λ (s : Seat). commands_in s.calls) same ∙ is in
     let long : length (commands_in new.calls) ≡ k = ap (λ (l : List Command). length l) its ∙ length-take-le k script (omega (arith, below)) in record {
       begun = begins k script (commands_in new.calls) its;
       whole = λ no_end none. absurd (cc (no_end, all));
       ended = λ none. inr (all, omega (arith, long, below));
+      blocked = record { none = λ empty. absurd (some_command k script below empty); given_up = blocked };
     }
 
 -- a worker that came to its script's end
-pub worked_wholly : (tries : Option ℕ) (k : ℕ) (script : List Command) (calls : List Kept)
-    → commands_in calls ≡ take k script → length script ≤ k → HasWorked tries script calls 0 None
-worked_wholly tries k script calls is past =
+pub worked_wholly : (tries : Option ℕ) (k : ℕ) (script : List Command) (calls : List Kept) (blocked : ℕ)
+    → commands_in calls ≡ take k script → length script ≤ k → k ≤ length script → (k ≡ 0 → blocked ≡ 0)
+    → HasWorked tries script calls (record { tried = 0; blocked = blocked }) None
+worked_wholly tries k script calls blocked is past within none_blocked =
     let all : commands_in calls ≡ script = is ∙ take_all k script past in record {
       begun = begins k script (commands_in calls) is;
       whole = λ no_end none. all;
       ended = λ none. inl (all, refl);
+      blocked = record { none = λ empty. none_blocked (nothing_made empty); given_up = omega arith };
     }
+  where
+    nothing_made : script ≡ [] → k ≡ 0
+    nothing_made empty = let none = ap (λ (l : List Command). length l) empty in omega (arith, within, none)
 
 -- the seat that a worker gave back
 pub seat_there : (served : List Served) (w : ℕ) → w < length served

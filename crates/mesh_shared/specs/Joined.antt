@@ -28,7 +28,7 @@ pub record AreMeshing (plan : MeshPlan) (most : Option ℕ) (handles : List (Pro
 pub record HaveServed (handles : List (PromisedHandle Served Works)) (served : List Served) : Type 0 where
   pub many : length served ≡ length handles
   pub kept : (w : ℕ) (h : PromisedHandle Served Works) (d : Served) → w < length handles
-      → HasWorked (slice_index_or handles w h).promise.tries (slice_index_or handles w h).promise.script.now (slice_index_or served w d).seat.calls (slice_index_or served w d).worked.tried (slice_index_or served w d).stop
+      → HasWorked (slice_index_or handles w h).promise.tries (slice_index_or handles w h).promise.script.now (slice_index_or served w d).seat.calls (slice_index_or served w d).worked (slice_index_or served w d).stop
 
 -- each mesher's thread returned what it promised
 pub record HaveMeshed (handles : List (PromisedHandle MesherEnd Meshes)) (ends : List MesherEnd) : Type 0 where

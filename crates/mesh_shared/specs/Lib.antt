@@ -1,3 +1,4 @@
+pub mod Counts
 pub mod Joined
 pub mod MesherRuns
 pub mod RunLaws

@@ -54,12 +54,18 @@ commands_in calls = map (λ kept. kept.command) calls
 abbrev pub HasEnded : Option ℕ → List Command → List Command → ℕ → Type 0
 HasEnded tries script called tried = ((called ≡ script) × (tried ≡ 0)) ⊎ ((tries ≡ Some tried) × (length called < length script))
 
+-- a worker without a command had no blocked attempt, and each attempt at a command that it gave up was blocked
+pub record HasBlocked (script : List Command) (told : Worked) : Type 0 where
+  pub none : script ≡ [] → told.blocked ≡ 0
+  pub given_up : told.tried ≤ told.blocked
+
 -- the calls are a prefix of the script. If nothing stopped the worker, it reports how it ended, and with unlimited
 -- tries the calls are the whole script
-pub record HasWorked (tries : Option ℕ) (script : List Command) (calls : List Kept) (tried : ℕ) (stop : Option EarlyExit) : Type 0 where
+pub record HasWorked (tries : Option ℕ) (script : List Command) (calls : List Kept) (told : Worked) (stop : Option EarlyExit) : Type 0 where
   pub begun : IsBeginning (commands_in calls) script
   pub whole : tries ≡ None → stop ≡ None → commands_in calls ≡ script
-  pub ended : stop ≡ None → HasEnded tries script (commands_in calls) tried
+  pub ended : stop ≡ None → HasEnded tries script (commands_in calls) told.tried
+  pub blocked : HasBlocked script told
 
 -- there is a seat for each script, and the seat's calls are a prefix of the script. If tries were unlimited, they are
 -- the whole script. Each worker reports how it ended
@@ -70,8 +76,11 @@ pub record AreServed (tries : Option ℕ) (scripts : List (List Command)) (seats
   pub all_told : length told ≡ length scripts
   pub ended : (w : ℕ) (d : Worked) → w < length scripts
       → HasEnded tries (script_of scripts w) (commands_in (kept_by (calls_of_seats seats) w)) (slice_index_or told w d).tried
+  pub blocked : (w : ℕ) (d : Worked) → w < length scripts → HasBlocked (script_of scripts w) (slice_index_or told w d)
 
--- each worker reports how it ended: the commands of its entries are its whole script, or it gave up the next one
+-- each worker reports how it ended: the commands of its entries are its whole script, or it gave up the next one. It
+-- also reports its blocked attempts
 pub record AreWorked (tries : Option ℕ) (scripts : List (List Command)) (history : List Entry) (told : List Worked) : Type 0 where
   pub many : length told ≡ length scripts
   pub each : (w : ℕ) (d : Worked) → w < length scripts → HasEnded tries (script_of scripts w) (commands_by w history) (slice_index_or told w d).tried
+  pub blocked : (w : ℕ) (d : Worked) → w < length scripts → HasBlocked (script_of scripts w) (slice_index_or told w d)

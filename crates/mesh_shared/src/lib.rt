@@ -8,19 +8,24 @@
 //! worker did.
 #![tactic(auto)]
 
+mod calls;
+mod counts;
 mod guarded;
 mod joining;
 mod mesher;
+mod pace;
 mod plan;
 pub mod run_laws;
 mod stops;
 mod threads;
 mod worker;
 
+pub use counts::MeshCounts;
 pub use mesh_lock::{
     Actor, Ended, FinishError, Gate, Kept, NoGate, OpenError, Point, Seat, Shared, is_read, settle,
 };
 pub use mesher::Meshed;
+pub use pace::Pace;
 pub use plan::{Limits, MeshPlan};
 pub use stops::RunError;
 pub use threads::{Ran, run_abandoned, run_threads, run_within};

@@ -1,14 +1,17 @@
 //! A mesher of a run.
-ghost use Rattle.std.specs.Prelude.{◌≡◌, ◌+◌, ◌↔◌, ◌≤◌, IfOk, IsTrue, None, length, map};
+ghost use Rattle.std.specs.Prelude.{◌≡◌, ◌+◌, ◌↔◌, ◌≤◌, IfOk, IsTrue, None, OnErr, OnOk, length, map};
 ghost use Rattle.model_search.specs.Search.{search, views};
-ghost use Rattle.mesh_shared.specs.MesherRuns.{AreOwn, HasMeshed, HasSearched, own_views, words_in};
+ghost use Rattle.mesh_shared.specs.Counts.{ArePairsTried, after_search, no_counts, pairs_in, with_begun, with_refused, with_step, with_step_refused};
+ghost use Rattle.mesh_shared.specs.MesherRuns.{AreOwn, HasCounted, HasMeshed, HasSearched, own_views, words_in};
 ghost use Rattle.mesh_lock.specs.CallBudgets.{IsUsedUp};
 
+use crate::calls::MesherCalls;
+use crate::counts::MeshCounts;
 use crate::guarded::{begin, step};
 use crate::plan::MeshPlan;
 use crate::stops::EarlyExit;
 use mesh_class::Class;
-use mesh_lock::{CallBudget, Shared};
+use mesh_lock::Shared;
 use mesh_search::{Actor, ClassView, Found, Gate, Point, search};
 use mesh_steps::StepDone;
 use model_words::Refusal;
@@ -35,8 +38,10 @@ pub struct Meshed {
     pub number: u32,
     /// The number of rounds in which each pair that was found was either refused or meshed until no step was left.
     pub rounds: u32,
-    /// The number of the mesher's calls that weren't refused, if the calls are limited.
+    /// The number of the mesher's calls of `begin` and `step` that weren't refused. Stays at `u32::MAX`.
     pub calls: u32,
+    /// What the mesher's searches and calls did.
+    pub counts: MeshCounts,
 }
 
 /// What a mesher's thread returns.
@@ -85,36 +90,41 @@ impl Round {
 }
 
 impl<'a, R: Threads + Wait + Sync, G: Gate + Sync> Mesher<'a, R, G> {
-    /// Makes all rounds, unless the mesher is stopped or uses up its calls first. Returns what the mesher did. A mesh
-    /// is left running only if the calls are used up before the mesh's last step.
+    /// Makes all rounds, unless the mesher is stopped or uses up its calls first. Then arrives at `Point::Ended`.
+    /// Returns what the mesher did. A mesh is left running only if the calls are used up before the mesh's last step.
     pub(crate) fn mesh(&self, most: Option<u32>) -> MesherEnd
         requires some { 1 ≤ self.now.plan.now.workers }
         requires most { self.now.plan.now.workers ≤ 16 }
         requires own { 1 ≤ self.now.plan.now.meshers }
         ensures { HasMeshed self.now.plan.now.rounds self.now.number most result.meshed result.stop }
     {
-        let mut calls = CallBudget::of(most);
+        let mut calls = MesherCalls::of(most);
         let (rounds, stop) = self.make_rounds(&mut calls);
         let meshed = Meshed {
             number: self.number,
             rounds,
-            calls: calls.made,
+            calls: calls.budget.made,
+            counts: calls.counts,
         };
+        self.arrive(Point::Ended);
         MesherEnd { meshed, stop }
     }
 
     /// Makes the rounds one after another, until all are made, the calls are used up, or a round fails. Returns the
     /// number of rounds that were made to their ends, and the stop if a round failed.
-    fn make_rounds(&self, calls: &mut CallBudget) -> (u32, Option<EarlyExit>)
+    fn make_rounds(&self, calls: &mut MesherCalls) -> (u32, Option<EarlyExit>)
         requires some { 1 ≤ self.now.plan.now.workers }
         requires most { self.now.plan.now.workers ≤ 16 }
         requires own { 1 ≤ self.now.plan.now.meshers }
-        ensures whole { (IsUsedUp calls.new → ⊥) → result.1 ≡ None → result.0 ≡ self.now.plan.now.rounds }
-        ensures most { calls.new.most ≡ calls.old.most }
+        requires none { calls.old.counts ≡ no_counts }
+        ensures whole { (IsUsedUp calls.new.budget → ⊥) → result.1 ≡ None → result.0 ≡ self.now.plan.now.rounds }
+        ensures most { calls.new.budget.most ≡ calls.old.budget.most }
+        ensures counted { HasCounted self.now.plan.now.rounds calls.new.budget.most calls.new.budget.made result.1
+            calls.new.counts }
     {
         let mut whole = 0;
         for round in 0..self.plan.rounds {
-            if calls.is_used_up() {
+            if calls.budget.is_used_up() {
                 return (whole, None);
             }
             match self.make_round(round, calls) {
@@ -131,15 +141,17 @@ impl<'a, R: Threads + Wait + Sync, G: Gate + Sync> Mesher<'a, R, G> {
 
     /// Takes the views of the mesher's classes, searches them outside the lock, and meshes the pairs that were found,
     /// classes ascending. An error is returned only if the views or the search fail.
-    fn make_round(&self, round: u32, calls: &mut CallBudget) -> Result<Round, EarlyExit>
+    fn make_round(&self, round: u32, calls: &mut MesherCalls) -> Result<Round, EarlyExit>
         requires some { 1 ≤ self.now.plan.now.workers }
         requires most { self.now.plan.now.workers ≤ 16 }
         requires own { 1 ≤ self.now.plan.now.meshers }
         ensures round { IfOk result (λ made. made.round ≡ round) }
         ensures searched { IfOk result
             (λ made. HasSearched self.now.plan.now self.now.number round made.views.items made.found.items) }
-        ensures whole { (IsUsedUp calls.new → ⊥) → IfOk result (λ made. made.whole ≡ length made.found.items) }
-        ensures most { calls.new.most ≡ calls.old.most }
+        ensures whole { (IsUsedUp calls.new.budget → ⊥) → IfOk result (λ made. made.whole ≡ length made.found.items) }
+        ensures counted { IfOk result (λ made. ArePairsTried (pairs_in made.found.items)
+            (after_search calls.old (pairs_in made.found.items)) calls.new) }
+        ensures uncounted { OnErr result (calls.new ≡ calls.old) }
     {
         let plan = self.plan;
         let views = self.own_views()?;
@@ -152,6 +164,7 @@ impl<'a, R: Threads + Wait + Sync, G: Gate + Sync> Mesher<'a, R, G> {
             plan.workers,
             self.gate,
         )?;
+        calls.counts.count_search(found.as_slice());
         let whole = self.mesh_all(views.as_slice(), found.as_slice(), calls);
         Ok(Round {
             round,
@@ -172,10 +185,10 @@ impl<'a, R: Threads + Wait + Sync, G: Gate + Sync> Mesher<'a, R, G> {
 
     /// Meshes the pairs that were found in each view, as long as calls are left. Returns the number of views of which
     /// each pair was either refused or meshed until no step was left.
-    fn mesh_all(&self, views: &[ClassView], found: &[Found], calls: &mut CallBudget) -> usize
+    fn mesh_all(&self, views: &[ClassView], found: &[Found], calls: &mut MesherCalls) -> usize
         requires { length views.now ≡ length found.now }
-        ensures whole { (IsUsedUp calls.new → ⊥) → result ≡ length found.now }
-        ensures most { calls.new.most ≡ calls.old.most }
+        ensures whole { (IsUsedUp calls.new.budget → ⊥) → result ≡ length found.now }
+        ensures tried { ArePairsTried (pairs_in found.now) calls.old calls.new }
     {
         let mut whole = 0;
         for k in 0..found.len() {
@@ -190,14 +203,13 @@ impl<'a, R: Threads + Wait + Sync, G: Gate + Sync> Mesher<'a, R, G> {
 
     /// Meshes pairs of a class one after another, as long as calls are left. Returns the number of pairs that were
     /// either refused or meshed until no step was left.
-    fn mesh_pairs(&self, class: Class, pairs: &[(u32, u32)], calls: &mut CallBudget) -> usize
-        ensures whole { (IsUsedUp calls.new → ⊥) → result ≡ length pairs.now }
-        ensures over { IsUsedUp calls.old → IsUsedUp calls.new }
-        ensures most { calls.new.most ≡ calls.old.most }
+    fn mesh_pairs(&self, class: Class, pairs: &[(u32, u32)], calls: &mut MesherCalls) -> usize
+        ensures whole { (IsUsedUp calls.new.budget → ⊥) → result ≡ length pairs.now }
+        ensures tried { ArePairsTried (length pairs.now) calls.old calls.new }
     {
         let mut ended = 0;
         for k in 0..pairs.len() {
-            if calls.is_used_up() {
+            if calls.budget.is_used_up() {
                 return ended;
             }
             if has_ended(self.mesh_pair(class, pairs[k], calls)) {
@@ -213,16 +225,16 @@ impl<'a, R: Threads + Wait + Sync, G: Gate + Sync> Mesher<'a, R, G> {
         &self,
         class: Class,
         pair: (u32, u32),
-        calls: &mut CallBudget,
+        calls: &mut MesherCalls,
     ) -> Result<u32, Refusal>
-        requires { IsUsedUp calls.old → ⊥ }
-        ensures ended { (IsUsedUp calls.new → ⊥) → IfOk result (λ left. left ≡ 0) }
-        ensures most { calls.new.most ≡ calls.old.most }
+        requires { IsUsedUp calls.old.budget → ⊥ }
+        ensures ended { (IsUsedUp calls.new.budget → ⊥) → IfOk result (λ left. left ≡ 0) }
+        ensures tried { ArePairsTried 1 calls.old calls.new }
     {
         let (source, destination) = pair;
         let mut left = self.begin(source, destination, calls)?;
         for _ in self.rt.forever() {
-            if calls.is_used_up() {
+            if calls.budget.is_used_up() {
                 return Ok(left);
             }
             left = self.step(class, calls)?.left;
@@ -234,9 +246,11 @@ impl<'a, R: Threads + Wait + Sync, G: Gate + Sync> Mesher<'a, R, G> {
     }
 
     /// Begins a mesh under the exclusive lock. Returns the number of the mesh's steps, or the refusal.
-    fn begin(&self, source: u32, destination: u32, calls: &mut CallBudget) -> Result<u32, Refusal>
-        requires { IsUsedUp calls.old → ⊥ }
-        ensures { calls.new.most ≡ calls.old.most }
+    fn begin(&self, source: u32, destination: u32, calls: &mut MesherCalls) -> Result<u32, Refusal>
+        requires { IsUsedUp calls.old.budget → ⊥ }
+        ensures most { calls.new.budget.most ≡ calls.old.budget.most }
+        ensures begun { OnOk result (calls.new.counts ≡ with_begun calls.old.counts) }
+        ensures refused { OnErr result (calls.new.counts ≡ with_refused calls.old.counts) }
     {
         let left = begin(
             &mut self.shared.book.write(self.rt),
@@ -249,9 +263,11 @@ impl<'a, R: Threads + Wait + Sync, G: Gate + Sync> Mesher<'a, R, G> {
     }
 
     /// Makes a step of the mesh that this mesher began, under the exclusive lock. Returns the step, or the refusal.
-    fn step(&self, class: Class, calls: &mut CallBudget) -> Result<StepDone, Refusal>
-        requires { IsUsedUp calls.old → ⊥ }
-        ensures { calls.new.most ≡ calls.old.most }
+    fn step(&self, class: Class, calls: &mut MesherCalls) -> Result<StepDone, Refusal>
+        requires { IsUsedUp calls.old.budget → ⊥ }
+        ensures most { calls.new.budget.most ≡ calls.old.budget.most }
+        ensures stepped { IfOk result (λ done. calls.new.counts ≡ with_step calls.old.counts done) }
+        ensures refused { OnErr result (calls.new.counts ≡ with_step_refused calls.old.counts) }
     {
         let done = step(&mut self.shared.book.write(self.rt), class, calls)?;
         self.arrive(Point::Stepped(done.kind, done.left));

@@ -15,7 +15,7 @@ use crate::stops::{EarlyExit, RunError};
 use crate::worker::{Served, Worked, Works, serve};
 use mesh_lock::{Ended, Seat, Shared};
 use mesh_mutator::{Book, Command};
-use mesh_search::Gate;
+use mesh_search::{Actor, Gate, Point};
 use std::alloc::{AllocError, Global};
 use std::sync::Wait;
 use std::thread;
@@ -93,9 +93,10 @@ pub fn run_abandoned<R: Threads + Wait + Sync, G: Gate + Sync>(
 pub struct Ran {
     /// The heap, the root cells and the history.
     pub ended: Ended,
-    /// What each mesher did, in the order of their numbers.
+    /// What each mesher did, in the order of their numbers. `Meshed::counts` has its searches, pairs and meshes.
     pub meshers: Vec<Meshed>,
-    /// How each script ended, in the order of the scripts.
+    /// How each script ended, in the order of the scripts. `Worked::blocked` has its blocked attempts. The number of a
+    /// worker's calls is the number of its entries in the history.
     pub workers: Vec<Worked>,
 }
 
@@ -264,7 +265,7 @@ fn start_workers<'s, E, R: Threads + Wait + Sync, G: Gate + Sync>(
         let script = scripts[workers.len()];
         let job = move || -> Served
             requires { (seat.calls ≡ []) × All IsInRange script.now × IfSome tries (λ tries. 1 ≤ tries) }
-            ensures { HasWorked tries script.entry.now result.seat.calls result.worked.tried result.stop }
+            ensures { HasWorked tries script.entry.now result.seat.calls result.worked result.stop }
         { serve(rt, gate, shared, seat, script, tries) };
         match scope.spawn_with(Works { script, tries }, job) {
             Ok(handle) => workers.push_reserved(handle),
@@ -275,7 +276,7 @@ fn start_workers<'s, E, R: Threads + Wait + Sync, G: Gate + Sync>(
 }
 
 /// Starts a thread for each mesher. If threads can't be started, returns the reason of the last failure. Returns `None`
-/// if all threads were started.
+/// if all threads were started. For each thread that can't be started, arrives at `Point::Ended` in the mesher's name.
 fn start_meshers<'s, E, R: Threads + Wait + Sync, G: Gate + Sync>(
     scope: &'s Scope<'s, E>,
     context: RunContext<'s, R, G>,
@@ -317,7 +318,10 @@ fn start_meshers<'s, E, R: Threads + Wait + Sync, G: Gate + Sync>(
         };
         match scope.spawn_with(meshes, job) {
             Ok(handle) => meshers.push_reserved(handle),
-            Err(_unstarted) => refused = Some(EarlyExit::Thread),
+            Err(_unstarted) => {
+                gate.arrive(Actor::Mesher(number), Point::Ended);
+                refused = Some(EarlyExit::Thread);
+            }
         }
     }
     refused

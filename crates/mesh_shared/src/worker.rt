@@ -1,5 +1,5 @@
 //! A worker of a run: it has a script and a seat.
-ghost use Rattle.std.specs.Prelude.{◌≡◌, ◌≤◌, [], IfSome, None};
+ghost use Rattle.std.specs.Prelude.{◌≡◌, ◌≤◌, ◌-◌, [], IfSome, None};
 ghost use Rattle.std.specs.List.{All};
 ghost use Rattle.model_words.specs.Commands.{IsInRange};
 ghost use Rattle.mesh_shared.specs.Runs.{HasWorked};
@@ -16,6 +16,10 @@ use std::thread::Promise;
 pub struct Worked {
     /// The number of attempts at the command that the worker gave up, or 0 if it gave up no command.
     pub tried: u32,
+    /// The number of attempts that were `Blocked`: all attempts at a command that the worker gave up, and all but the
+    /// last at each other command. The attempts at a command count when the last one has returned. At most `u32::MAX`
+    /// attempts at a command count. A count that reaches `u64::MAX` stays there.
+    pub blocked: u64,
 }
 
 /// What a worker's thread returns.
@@ -39,7 +43,7 @@ pub(crate) struct Works<'a> {
 }
 
 impl<'a> Promise<Served> for Works<'a> {
-    ghost kept_by = { λ p served. HasWorked p.tries p.script.now served.seat.calls served.worked.tried served.stop };
+    ghost kept_by = { λ p served. HasWorked p.tries p.script.now served.seat.calls served.worked served.stop };
 }
 
 /// Makes the calls of a script, one after another, and records them in `seat`, which must be empty. While a command is
@@ -56,7 +60,7 @@ pub(crate) fn serve<R: Wait, G: Gate>(
     requires empty { seat.calls ≡ [] }
     requires range { All IsInRange script.now }
     requires tries { IfSome tries (λ tries. 1 ≤ tries) }
-    ensures { HasWorked tries script.now result.seat.calls result.worked.tried result.stop }
+    ensures { HasWorked tries script.now result.seat.calls result.worked result.stop }
 {
     let (worked, stop) = work(rt, gate, shared, &mut seat, script, tries);
     Served { seat, worked, stop }
@@ -75,20 +79,37 @@ fn work<R: Wait, G: Gate>(
     requires empty { seat.old.calls ≡ [] }
     requires range { All IsInRange script.now }
     requires tries { IfSome most (λ tries. 1 ≤ tries) }
-    ensures { HasWorked most script.now seat.new.calls result.0.tried result.1 }
+    ensures { HasWorked most script.now seat.new.calls result.0 result.1 }
 {
     let mutator = Mutator::of(rt, gate, shared);
+    let mut blocked = 0u64;
     for i in 0..script.len() {
         let mut tries = CallBudget::of(most);
         match mutator.retry_up_to(seat, &script[i], &mut tries) {
-            Attempt::Done(_) => gate.arrive(
-                Actor::Worker(seat.number()),
-                Point::Called(call_number(i)),
-            ),
-            Attempt::Blocked => return (Worked { tried: tries.made }, None),
-            Attempt::HistoryFull => return (Worked { tried: 0 }, Some(EarlyExit::History)),
-            Attempt::OutOfMemory => return (Worked { tried: 0 }, Some(EarlyExit::Memory)),
+            Attempt::Done(_) => {
+                blocked = blocked.saturating_add(attempts_before_last(&tries));
+                gate.arrive(Actor::Worker(seat.number()), Point::Called(call_number(i)));
+            }
+            Attempt::Blocked => {
+                let tried = tries.made;
+                blocked = blocked.saturating_add(u64::from(tried));
+                return (Worked { tried, blocked }, None);
+            }
+            Attempt::HistoryFull => {
+                blocked = blocked.saturating_add(attempts_before_last(&tries));
+                return (Worked { tried: 0, blocked }, Some(EarlyExit::History));
+            }
+            Attempt::OutOfMemory => {
+                blocked = blocked.saturating_add(attempts_before_last(&tries));
+                return (Worked { tried: 0, blocked }, Some(EarlyExit::Memory));
+            }
         }
     }
-    (Worked { tried: 0 }, None)
+    (Worked { tried: 0, blocked }, None)
+}
+
+fn attempts_before_last(tries: &CallBudget) -> u64
+    ensures { result ≡ tries.now.made - 1 }
+{
+    u64::from(tries.made.saturating_sub(1))
 }

@@ -2,3 +2,4 @@
 
 mod gates;
 mod meshers;
+mod paces;

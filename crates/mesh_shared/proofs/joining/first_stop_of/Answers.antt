@@ -1,5 +1,6 @@
 use Rattle.std.proofs.Common.{◌++◌, ◌∷◌, [], List, Option, None, map, slice_index_or, ap, sym, ◌∙◌}
 use Rattle.std.proofs.lemmas.List.{append-nil, take_all}
+use Rattle.mesh_shared.specs.Counts.{no_counts}
 use Rattle.mesh_shared.specs.Stops.{either_stop, first_stop}
 use Rattle.mesh_shared.specs.declared.mesher.MesherEnd.{MesherEnd}
 use Rattle.mesh_shared.specs.declared.stops.EarlyExit.{EarlyExit}
@@ -9,7 +10,7 @@ use Rattle.mesh_shared.proofs.joining.first_stop_of.Goals as goal
 
 -- what is read where no mesher tells
 abbrev untold : MesherEnd
-untold = record { meshed = record { number = 0; rounds = 0; calls = 0 }; stop = None }
+untold = record { meshed = record { number = 0; rounds = 0; calls = 0; counts = no_counts }; stop = None }
 
 pub loop-q-preserved : goal.loop-q-preserved
 loop-q-preserved c =

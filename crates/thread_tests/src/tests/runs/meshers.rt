@@ -1,5 +1,5 @@
 //! Tests of scripts on threads with running meshers. A gate stops the threads at chosen points.
-ghost use Rattle.std.specs.Prelude.{◌≡◌, ◌≤◌, length};
+ghost use Rattle.std.specs.Prelude.{◌≡◌, ◌≤◌, IfSome, length};
 ghost use Rattle.std.specs.List.{All};
 ghost use Rattle.model_words.specs.Commands.{IsInRange};
 
@@ -8,7 +8,10 @@ use crate::tests::{check_count, check_that};
 use arrayvec::ArrayVec;
 use mesh_class::class_of;
 use mesh_mutator::{Book, Command, Entry, Reply};
-use mesh_shared::{Ended, Gate, MeshPlan, run_abandoned, run_threads};
+use mesh_shared::{
+    Ended, Gate, Limits, MeshCounts, MeshPlan, Meshed, Pace, Ran, Worked, run_abandoned,
+    run_threads, run_within,
+};
 use mesh_steps::{Heap, Report};
 use model_words::{Refusal, StepKind};
 use std::ops::Range;
@@ -222,6 +225,28 @@ fn ran_past<R: Abort + AllocGlobal + Threads + Wait + Sync, G: Gate + Sync>(
         Some(calls) => run_abandoned(rt, rt.alloc(), book, scripts, &plan, calls, TRIES, gate),
     };
     look_at(ended.expect(rt, "a history"))
+}
+
+/// Runs these scripts with the gate of a course within limits, and returns what the threads did.
+fn ran_within<R: Abort + AllocGlobal + Clock + Threads + Wait + Sync>(
+    rt: &R,
+    course: &Course,
+    scripts: &[&[Command]],
+    limits: Limits,
+) -> Ran
+    requires some { 1 ≤ length scripts.now }
+    requires few { length scripts.now ≤ 64 }
+    requires range { All (λ script. All IsInRange script.now) scripts.now }
+    requires tries { IfSome limits.tries (λ tries. 1 ≤ tries) }
+{
+    let scale = course.scale;
+    check_scale(rt, scale);
+    let marks = marks_of(rt, course.events);
+    let gate = Holding::new(rt, marks.as_slice(), course.holds, course.orders);
+    let plan = plan_of(rt, scale.rounds, scale.searchers, scale.meshers);
+    let book = Book::open(rt.alloc(), scale.pages, scale.room).expect(rt, "memory");
+    let ran = run_within(rt, rt.alloc(), book, scripts, &plan, limits, &gate);
+    ran.expect(rt, "a history")
 }
 
 /// Runs the scripts of a course, and returns the result.
@@ -699,4 +724,69 @@ static STORE_HELD_BACK: Course = Course {
 fn a_store_is_given_up(rt: HostRuntime) {
     let seen = played(&rt, &STORE_HELD_BACK, Some(2));
     check_entries(&rt, &seen, (10, 1));
+}
+
+/// Returns what a mesher counted: calls, pairs, meshes begun, pairs refused, meshes ended, steps refused, and pages.
+fn counts_of(meshed: &Meshed) -> [u64; 7] {
+    let MeshCounts {
+        searches: _,
+        pairs,
+        begun,
+        refused,
+        ended,
+        steps_refused,
+        pages,
+    } = meshed.counts;
+    let calls = u64::from(meshed.calls);
+    [calls, pairs, begun, refused, ended, steps_refused, pages]
+}
+
+/// Asserts that a run had one mesher, and that it counted this. Returns its rounds and its searches.
+fn check_counts(rt: &impl Abort, meshers: &[Meshed], wanted: [u64; 7]) -> (u32, u64) {
+    check_count(rt, meshers.len(), 1);
+    let meshed = meshers.get(0).expect(rt, "a mesher");
+    assert_eq!(rt; counts_of(meshed), wanted);
+    (meshed.rounds, meshed.counts.searches)
+}
+
+/// Asserts that a worker made this number of attempts at a command that it gave up, and had this number of blocked
+/// attempts.
+fn check_attempts(rt: &impl Abort, workers: &[Worked], w: usize, tried: u32, blocked: u64) {
+    let worked = workers.get(w).expect(rt, "a worker");
+    check_that(rt, worked.tried == tried, "attempts at the last command");
+    check_that(rt, worked.blocked == blocked, "blocked attempts");
+}
+
+#[test]
+fn a_mesher_counts_what_it_did(rt: HostRuntime) {
+    let script = script_of(&rt, SIX_GROUPS);
+    let ran = ran_within(&rt, &SEARCH_BEHIND, &alone(&script), Limits::none());
+    let made = check_counts(&rt, ran.meshers.as_slice(), [21, 3, 3, 0, 3, 0, 3]);
+    check_that(&rt, made == (2, 2), "it searched in two rounds");
+    check_attempts(&rt, ran.workers.as_slice(), 0, 0, 0);
+}
+
+#[test]
+fn a_worker_counts_its_blocked_attempts(rt: HostRuntime) {
+    let first = script_of(&rt, READER);
+    let second = script_of(&rt, WRITER);
+    let limits = Limits {
+        calls: Some(2),
+        tries: Some(TRIES),
+    };
+    let ran = ran_within(&rt, &STORE_HELD_BACK, &both(&first, &second), limits);
+    check_counts(&rt, ran.meshers.as_slice(), [2, 1, 1, 0, 0, 0, 0]);
+    check_attempts(&rt, ran.workers.as_slice(), 0, 0, 0);
+    check_attempts(&rt, ran.workers.as_slice(), 1, 10, 10);
+}
+
+#[test]
+fn paced_runs_end(rt: HostRuntime) {
+    let script = script_of(&rt, THREE_READS);
+    for rounds in 0..3 {
+        let scale = Scale { rounds, ..USUAL };
+        let pace = Pace::new(&rt, 1, 1);
+        let seen = ran_past(&rt, scale, &alone(&script), None, &pace);
+        check_entries(&rt, &seen, (3, 0));
+    }
 }

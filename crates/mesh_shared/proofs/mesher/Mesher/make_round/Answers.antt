@@ -1,5 +1,6 @@
 use Rattle.std.proofs.Common.{ℕ, List, length, map, ap, ◌∙◌}
 use Rattle.model_search.specs.Search.{Found, View, search}
+use Rattle.mesh_shared.proofs.MesherCounts.{found_are_tried}
 use Rattle.mesh_shared.proofs.mesher.Mesher.make_round.Goals as goal
 
 pub returns-clause-searched : goal.returns-clause-searched
@@ -12,4 +13,9 @@ returns-clause-searched g c =
     }
 
 pub returns-clause-whole : goal.returns-clause-whole
-returns-clause-whole g c left = c.mesh_all-whole.ensures.whole left ∙ ap (λ (l : List Found). length l) c.as_slice-3.ensures.value
+returns-clause-whole g c left = c.mesh_all-whole.ensures.whole left ∙ ap (λ (l : List Found). length l) c.as_slice-4.ensures.value
+
+pub returns-clause-counted : goal.returns-clause-counted
+returns-clause-counted g c =
+    found_are_tried c.as_slice-2.result.now c.as_slice-4.result.now _ c.args.calls.now _ c.count_search.new.self c.as_slice-2.ensures.value c.as_slice-4.ensures.value
+    c.count_search.ensures c.mesh_all-whole.ensures.tried
