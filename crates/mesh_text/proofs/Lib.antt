@@ -1,4 +1,5 @@
 pub mod AnswerLines
+pub mod AttemptFields
 pub mod HistoryParts
 pub mod LeftJournals
 pub mod LineTexts

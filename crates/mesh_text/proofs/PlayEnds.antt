@@ -4,7 +4,9 @@ use Rattle.std.specs.Prelude.{is_err, OnOk, IfErr}
 use Rattle.std.specs.Result.{IsErr, IsErrAnd, OnErr}
 use Rattle.std.specs.Io.KnownBytes.{Appends}
 use Rattle.model_jobs.specs.Jobs.{Job}
-use Rattle.mesh_text.specs.Turns.{HasGathered}
+use Rattle.mesh_text.specs.Printed.{HasGathered}
+use Rattle.mesh_text.specs.declared.printed.Printed.{Printed}
+use Rattle.mesh_text.specs.declared.printed.Printed.TheVariants.{Answers, Echo}
 use Rattle.text_devices.specs.declared.faults.ReplayError.{ReplayError}
 use Rattle.text_devices.specs.declared.faults.ReplayError.TheVariants.{Memory, Write}
 
@@ -13,8 +15,9 @@ pub nothing_written : (old : Option (List ℕ)) → Appends old old []
 nothing_written None = tt
 nothing_written (Some bytes) = sym (append-nil bytes)
 
-pub gathered_none : (job : Job) (old : Option (List ℕ)) (text : List ℕ) → text ≡ [] → HasGathered job 0 old old text
-gathered_none job old text none = record { lines = 0; wrote = nothing_written old; all = none }
+pub gathered_none : (printed : Printed) (job : Job) (old : Option (List ℕ)) (text : List ℕ) → text ≡ [] → HasGathered printed job 0 old old text
+gathered_none Answers job old text none = record { lines = 0; wrote = nothing_written old; all = none }
+gathered_none Echo job old text none = record { lines = 0; wrote = nothing_written old; all = none }
 
 module _ {T : Type 0} where
   -- an error is no success

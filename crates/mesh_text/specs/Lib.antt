@@ -1,6 +1,8 @@
 pub mod Answers
+pub mod Echo
 pub mod Histories
 pub mod HistoryRows
+pub mod Printed
 pub mod Recorded
 pub mod RecordingRows
 pub mod Recordings

@@ -6,7 +6,7 @@ use Rattle.model_jobs.specs.Jobs.{Job}
 use Rattle.model_jobs.specs.Texts.{output}
 use Rattle.text_job.specs.Read.{HasFound, HasReadJob}
 use Rattle.text_devices.specs.Transfer.{AppendsBeginning}
-use Rattle.mesh_text.specs.Turns.{AppendsLines}
+use Rattle.mesh_text.specs.Turns.{lines_up_to}
 use Rattle.text_devices.specs.declared.faults.ReplayError.{ReplayError}
 use Rattle.text_devices.specs.declared.faults.ReplayError.TheVariants.{Read, Write, Text, Memory}
 
@@ -31,7 +31,7 @@ HasBegun left left' written written' = HasPlayed left left' (λ job. AppendsBegi
 
 -- the input, a job, was read to its end, and the answers to the first lines of the job's plan were written
 abbrev pub HasAnswered : Option (List ℕ) → Option (List ℕ) → Option (List ℕ) → Option (List ℕ) → Type 0
-HasAnswered left left' written written' = HasPlayed left left' (λ job. AppendsLines job written written')
+HasAnswered left left' written written' = HasPlayed left left' (λ job. (n : ℕ) × Appends written written' (lines_up_to job n))
 
 -- what was read and written before a replay stopped for this error
 abbrev pub HasStopped : Option (List ℕ) → Option (List ℕ) → Option (List ℕ) → Option (List ℕ) → ReplayError → Type 0

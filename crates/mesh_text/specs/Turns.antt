@@ -1,10 +1,8 @@
 -- The progress of the workers of a job, and the text that their answers add.
-use Rattle.std.specs.Prelude.{◌≡◌, ℕ, List, [], ◌++◌, Option, drop, length, slice_index, slice_index_or, take, vec_len}
-use Rattle.std.specs.Io.KnownBytes.{Appends}
+use Rattle.std.specs.Prelude.{◌≡◌, ℕ, List, [], ◌++◌, drop, length, slice_index, slice_index_or, take, vec_len}
 use Rattle.std.specs.List.{flat_map}
-use Rattle.model_jobs.specs.Jobs.{Answer, Job, Next, State, answers_from, initial_state, state_after, Reported, told}
+use Rattle.model_jobs.specs.Jobs.{Answer, Job, Next, State, answers_from, initial_state, state_after}
 use Rattle.model_jobs.specs.Texts.{answer_text, ended}
-use Rattle.model_heap.specs.Table.{report_of}
 use Rattle.mesh_mutator.specs.Book.{Book, memory_of_book, table_of_book}
 use Rattle.mesh_steps.specs.Heap.{arena_of}
 use Rattle.mesh_text.specs.declared.turns.Turns.{Turns}
@@ -62,13 +60,3 @@ state_up_to job n = state_after job (initial_state job) (take n job.plan)
 pub record StandsBehind (job : Job) (n : ℕ) (turns : Turns) : Type 0 where
   pub workers : worker_count turns ≡ length job.scripts
   pub at : IsAt job (state_up_to job n) (book_of turns) (places_of turns)
-
--- the lines of the answers to the first lines of a job's plan were appended to known bytes
-abbrev pub AppendsLines : Job → Option (List ℕ) → Option (List ℕ) → Type 0
-AppendsLines job old new = (n : ℕ) × Appends old new (lines_up_to job n)
-
--- the answers to some of the first `n` lines of the plan were written, and the answers to the others are this text
-pub record HasGathered (job : Job) (n : ℕ) (old new : Option (List ℕ)) (text : List ℕ) : Type 0 where
-  pub lines : ℕ
-  pub wrote : Appends old new (lines_up_to job lines)
-  pub all : lines_up_to job lines ++ text ≡ lines_up_to job n

@@ -4,6 +4,8 @@
 //! line of the plan. A line with a worker's number is an attempt of this worker at its next command. Any other line is
 //! a call of the mesher: a search, a mesh in steps or as a whole, a cancel, a sweep or a report.
 //!
+//! `replay_echoed` writes each line of the plan with its command before the answer.
+//!
 //! `replay_recorded` runs the plan too, but writes the journal as a recorded history instead of the answers. `read_job`
 //! only reads the job. `Turns` runs a plan line by line.
 //!
@@ -18,15 +20,19 @@
 #![tactic(auto)]
 
 mod answers;
+mod echo;
 mod histories;
 pub mod history_rows;
 mod mesher;
+mod printed;
 mod recorded;
 pub mod recording_rows;
 mod recordings;
 mod run;
 mod turns;
 
+pub use answers::add_report;
+pub use echo::replay_echoed;
 pub use histories::history_lines;
 pub use model_words::{Command, FaultKind, MAX_BYTES, Reply, TextFault, Version};
 pub use recorded::replay_recorded;

@@ -2,18 +2,18 @@
 ghost use Rattle.std.specs.Prelude.{◌≡◌, ◌⊎◌, [], false, true, length, vec_len, is_err, IfErr, OnOk, OnErr};
 ghost use Rattle.std.specs.Io.KnownBytes.{Appends, Keeps};
 ghost use Rattle.model_jobs.specs.Jobs.{initial_state};
-ghost use Rattle.model_jobs.specs.Texts.{output as output_of};
+ghost use Rattle.mesh_text.specs.Printed.{AppendsLines, printed_output};
 ghost use Rattle.mesh_text.specs.Replay.{HasReplayed, HasStopped};
 ghost use Rattle.text_devices.specs.Transfer.{AppendsBeginning};
-ghost use Rattle.mesh_text.specs.Turns.{AppendsLines, IsAt};
+ghost use Rattle.mesh_text.specs.Turns.{IsAt};
 
+use crate::printed::{Printed, add_prefix};
 use crate::turns::Turns;
 use std::alloc::Global;
 use text_devices::{ReplayError, Sink, Source, write_lines};
 use text_job::{Job, read_job};
 
-/// Collected answer lines are written to the output once they have at least this number of bytes, and at the end of the
-/// plan.
+/// Collected lines are written to the output once they have at least this number of bytes, and at the end of the plan.
 const CHUNK_BYTES: usize = 8192;
 
 /// Replays the job file that the input contains, and writes the answer lines of its plan.
@@ -44,15 +44,16 @@ pub fn replay<I: Source, O: Sink>(
     let job = read_job(alloc, input)?;
     let mut turns = Turns::open(alloc, &job)?;
     let mut text = Vec::new(alloc);
-    play(alloc, &job, &mut turns, &mut text, output)
+    play(alloc, &job, Printed::Answers, &mut turns, &mut text, output)
 }
 
-/// Runs the plan of a job from its initial state, and writes its answer lines. The lines are collected in `text` before
-/// they are written.
+/// Runs the plan of a job from its initial state, and writes what is printed for its lines. The printed lines are
+/// collected in `text` before they are written.
 #[tactic(auto, using(crate::proofs::PlayEnds::never_ok, crate::proofs::PlayEnds::not_write, crate::proofs::PlayEnds::is_memory))]
-fn play<O: Sink>(
+pub(crate) fn play<O: Sink>(
     alloc: Global,
     job: &Job,
+    printed: Printed,
     turns: &mut Turns,
     text: &mut Vec<u8>,
     output: &mut O,
@@ -62,15 +63,17 @@ fn play<O: Sink>(
     requires initial_state { IsAt job.now (initial_state job.now) turns.old.book turns.old.next.items }
     requires empty { text.old.items ≡ [] }
     ensures ok { OnOk result (O.has_failed output.new ≡ false) }
-    ensures whole { OnOk result (Appends (O.written output.old) (O.written output.new) (output_of job.now)) }
+    ensures whole { OnOk result
+        (Appends (O.written output.old) (O.written output.new) (printed_output printed job.now)) }
     ensures fails { result ≡ Err ReplayError.Write → O.has_failed output.new ≡ true }
     ensures beginning { result ≡ Err ReplayError.Write
-        → AppendsBeginning (O.written output.old) (O.written output.new) (output_of job.now) }
+        → AppendsBeginning (O.written output.old) (O.written output.new) (printed_output printed job.now) }
     ensures lines { result ≡ Err ReplayError.Memory
-        → AppendsLines job.now (O.written output.old) (O.written output.new) }
+        → AppendsLines printed job.now (O.written output.old) (O.written output.new) }
     ensures kinds { IfErr result (λ error. (error ≡ ReplayError.Write) ⊎ (error ≡ ReplayError.Memory)) }
 {
     for line in job.plan.lines() {
+        add_prefix(printed, job, turns, line, text)?;
         turns.answer(alloc, job, line, text)?;
         text.extend_from_slice(b"\n")?;
         if text.len() >= CHUNK_BYTES {

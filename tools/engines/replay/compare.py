@@ -1,11 +1,12 @@
 #!/usr/bin/env python3
 """Compares replays of random job files by the program and by the plain engine in this folder.
 
-    tools/engines/replay/compare.py [COUNT [SEED [PROGRAM]]]
+    tools/engines/replay/compare.py [--echo] [COUNT [SEED [PROGRAM]]]
 
 COUNT is the number of job files, by default 1,000, SEED the first file's seed, by default 1, and PROGRAM by default
-crates/meshrun/out/meshrun. The workers of a job make objects and free most of them. Then their other commands come
-between searches, meshes, cancels, sweeps and reports. One file in ten has a changed byte, which mostly is a fault.
+crates/meshrun/out/meshrun. With --echo, both replay with that option. The workers of a job make objects and free most
+of them. Then their other commands come between searches, meshes, cancels, sweeps and reports. One file in ten has a
+changed byte, which mostly is a fault.
 
 A seed with which the two differ, in an output or a status, is a line of the output. The last line counts the files, the
 meshes to the last step and the blocked stores. The status is 1 if a file differs, and 2 if there is no program or the
@@ -121,9 +122,9 @@ class RandomJob:
         return bytes(text)
 
 
-def replayed(program, file):
+def replayed(program, options, file):
     """The status and the outputs of a replay."""
-    ran = subprocess.run([program, "replay", file], capture_output=True, check=False)
+    ran = subprocess.run([program, "replay", *options, file], capture_output=True, check=False)
     return ran.returncode, ran.stdout, ran.stderr
 
 
@@ -136,7 +137,8 @@ def built(folder):
 
 
 def main():
-    words = dict(enumerate(sys.argv[1:]))
+    options = [word for word in sys.argv[1:2] if word == "--echo"]
+    words = dict(enumerate(sys.argv[1 + len(options):]))
     first, program = int(words.get(1, 1)), pathlib.Path(words.get(2, PROGRAM))
     if not program.exists():
         print(f"no program at {program}: run `rt ci`, or `rt run` in crates/meshrun", file=sys.stderr)
@@ -148,11 +150,11 @@ def main():
         file = pathlib.Path(folder) / "random.job"
         for one in seeds:
             file.write_bytes(RandomJob(one).text())
-            ours, plain = replayed(program, file), replayed(engine, file)
+            ours, plain = replayed(program, options, file), replayed(engine, options, file)
             if ours != plain:
                 print(f"seed {one} differs")
                 differ += 1
-            answers = ours[1].split(b"\n")
+            answers = [line.split(b" -> ")[-1] for line in ours[1].split(b"\n")]
             meshes += sum(answer.startswith(b"meshed ") or answer == b"release left 0" for answer in answers)
             blocked += answers.count(b"blocked")
     print(f"{len(seeds)} files, {differ} differ, {meshes} meshes, {blocked} blocked stores")

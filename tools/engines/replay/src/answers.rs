@@ -23,7 +23,11 @@ impl Text {
     }
 
     pub fn add(&mut self, words: &str) {
-        self.bytes.extend_from_slice(words.as_bytes());
+        self.add_bytes(words.as_bytes());
+    }
+
+    pub fn add_bytes(&mut self, bytes: &[u8]) {
+        self.bytes.extend_from_slice(bytes);
     }
 
     pub fn end_line(&mut self) {

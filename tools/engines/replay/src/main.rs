@@ -1,17 +1,20 @@
 //! A plain meshing heap without proofs, for the times of `meshrun replay` and `meshrun threads`.
 //!
-//!     plain replay FILE
+//!     plain replay [--echo] FILE
 //!     plain threads FILE ROUNDS PROBE SEED
 //!
-//! FILE is a job file of either version. `replay` prints the answer to each line of the plan. `threads` runs each
-//! script on a thread of its own, while another thread searches and meshes ROUNDS times, with at most PROBE rounds of
-//! tries in a search. It prints what `meshrun threads` prints.
+//! FILE is a job file of either version. `replay` prints the answer to each line of the plan. With `--echo` it prints
+//! the line, the command that a worker attempts at the line, and ` -> ` before the answer; lines and commands are
+//! copied from FILE. `threads` runs each script on a thread of its own, while another thread searches and meshes ROUNDS
+//! times, with at most PROBE rounds of tries in a search. It prints what `meshrun threads` prints.
 //!
 //! The status is 1 if FILE can't be read or the output fails, and 2 if the arguments or the text have a fault.
-//! tools/bench/replay.sh and tools/bench/lock.sh build and run it.
+//! tools/bench/replay.sh and tools/bench/lock.sh build and run it, and tools/gen/echo_golden.sh writes golden files with
+//! it.
 mod answers;
 mod book;
 mod class;
+mod echo;
 mod heap;
 mod job;
 mod mesh;
@@ -42,6 +45,7 @@ impl From<io::Error> for Failure {
 /// What the arguments ask for.
 enum Way {
     Replay,
+    Echo,
     Threads(Meshing),
 }
 
@@ -49,7 +53,7 @@ fn main() -> ExitCode {
     match run() {
         Ok(()) => ExitCode::SUCCESS,
         Err(Failure::Usage) => {
-            eprintln!("usage: plain replay FILE, or plain threads FILE ROUNDS PROBE SEED");
+            eprintln!("usage: plain replay [--echo] FILE, or plain threads FILE ROUNDS PROBE SEED");
             ExitCode::from(2)
         }
         Err(Failure::Text(fault)) => {
@@ -70,6 +74,7 @@ fn run() -> Result<(), Failure> {
     let job = reader::read(&text).map_err(Failure::Text)?;
     let answers = match way {
         Way::Replay => replay::replayed(&job),
+        Way::Echo => replay::echoed(&job, &echo::Echo::of(&text)),
         Way::Threads(meshing) => threads::run(&job, &meshing),
     };
     io::stdout().write_all(&answers)?;
@@ -78,16 +83,20 @@ fn run() -> Result<(), Failure> {
 
 /// Reads the arguments. Returns the way and the path of the job file.
 fn asked(words: &[String]) -> Option<(Way, &str)> {
-    let way = match words.first()?.as_str() {
-        "replay" if words.len() == 2 => Way::Replay,
-        "threads" if words.len() == 5 => Way::Threads(Meshing {
-            rounds: words[2].parse().ok()?,
-            probe: words[3].parse().ok()?,
-            seed: words[4].parse().ok()?,
-        }),
-        _ => return None,
-    };
-    Some((way, &words[1]))
+    let words: Vec<&str> = words.iter().map(String::as_str).collect();
+    match words[..] {
+        ["replay", path] => Some((Way::Replay, path)),
+        ["replay", "--echo", path] => Some((Way::Echo, path)),
+        ["threads", path, rounds, probe, seed] => {
+            let meshing = Meshing {
+                rounds: rounds.parse().ok()?,
+                probe: probe.parse().ok()?,
+                seed: seed.parse().ok()?,
+            };
+            Some((Way::Threads(meshing), path))
+        }
+        _ => None,
+    }
 }
 
 /// Reads a file, at most to one byte past the greatest length of a job file.

@@ -1,18 +1,33 @@
 //! The replay of a job's plan.
 use crate::answers::Text;
 use crate::book::{Attempt, Book};
+use crate::echo::Echo;
 use crate::job::{Job, Line};
 use crate::search::split_search;
 
 /// The answers to the lines of a job's plan.
 pub fn replayed(job: &Job) -> Vec<u8> {
-    let mut player = Player {
-        job,
-        book: Book::new(job.pages, job.history),
-        next: vec![0; job.scripts.len()],
-        text: Text::new(),
-    };
+    let mut player = Player::new(job);
     for line in &job.plan {
+        player.play(line);
+        player.text.end_line();
+    }
+    player.text.into_bytes()
+}
+
+/// The lines of a job's plan. Each has the command that is attempted, ` -> ` and its answer behind it.
+pub fn echoed(job: &Job, echo: &Echo) -> Vec<u8> {
+    let mut player = Player::new(job);
+    for (place, line) in job.plan.iter().enumerate() {
+        player.text.add_bytes(echo.line(place));
+        if let Line::Run(worker) = *line {
+            let worker = usize::from(worker);
+            if let Some(command) = echo.command(worker, player.next[worker]) {
+                player.text.add(" ");
+                player.text.add_bytes(command);
+            }
+        }
+        player.text.add(" -> ");
         player.play(line);
         player.text.end_line();
     }
@@ -28,6 +43,15 @@ struct Player<'a> {
 }
 
 impl Player<'_> {
+    fn new(job: &Job) -> Player<'_> {
+        Player {
+            job,
+            book: Book::new(job.pages, job.history),
+            next: vec![0; job.scripts.len()],
+            text: Text::new(),
+        }
+    }
+
     fn play(&mut self, line: &Line) {
         let heap = &mut self.book.heap;
         let is_alone = self.job.version == 1;

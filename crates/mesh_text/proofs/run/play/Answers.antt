@@ -1,4 +1,4 @@
-use Rattle.std.proofs.Common.{◌≡◌, ◌∙◌, ◌+◌, length, take, ap, subst}
+use Rattle.std.proofs.Common.{◌≡◌, ◌∙◌, length, take, ap, subst}
 use Rattle.std.proofs.lemmas.Result.{on_ok_weaker}
 use Rattle.std.specs.Result.{OnErr}
 use Rattle.std.specs.Io.KnownBytes.{Appends}
@@ -23,10 +23,14 @@ answer-requires-clause-fits g c =
 pub answer-requires-clause-workers : goal.answer-requires-clause-workers
 answer-requires-clause-workers g c = c.loop-line.invariant.workers
 
+pub add_prefix-requires : goal.add_prefix-requires
+add_prefix-requires g c = c.loop-line.invariant.workers
+
 pub loop-line-preserved : goal.loop-line-preserved
 loop-line-preserved g c =
-    let line = line_gathered _ _ _ _ _ _ _ _ _ _ _
+    let line = line_gathered c.args.printed c.args.job.now c.loop-line.line-index _ _ _ _ _ _ _ _ _ _
     (c.lines-line-items.ensures ∙ ap (λ (j : Job). j.plan) c.job.view_is) c.loop-line-test.true c.line-item.is
+    (c.in_ok-add_prefix.ensures (state_up_to c.args.job.now c.loop-line.line-index) c.loop-line.invariant.at)
     (c.in_ok-answer.ensures.told (state_up_to c.args.job.now c.loop-line.line-index) c.loop-line.invariant.at) c.loop-line.invariant.gathered c.in_ok-extend_from_slice.ensures.items in
     let workers = c.in_ok-answer.ensures.workers ∙ c.loop-line.invariant.workers in
     elim c.if-len-ge-CHUNK_BYTES.branch [
@@ -37,7 +41,7 @@ loop-line-preserved g c =
             workers = workers;
             fresh = ap (λ o. g.O.Sink.has_failed o) w.output-is ∙ w.in_ok-write_lines.ensures.fails;
             at = line.1;
-            gathered = rw (w.output-is, w.text-is, w.clear.ensures.items) (all_written _ _ _ _ _ _ line.0 wrote);
+            gathered = rw (w.output-is, w.text-is, w.clear.ensures.items) (all_written _ _ _ _ _ _ _ line.0 wrote);
           }
       | else-len-ge-CHUNK_BYTES w ↦ record {
         workers = workers;
@@ -49,8 +53,9 @@ loop-line-preserved g c =
 
 pub returns-in_err-write_lines-clause-beginning : goal.returns-in_err-write_lines-clause-beginning
 returns-in_err-write_lines-clause-beginning g c is =
-    part_written _ _ _ _ _ _ (line_gathered _ _ _ _ _ _ _ _ _ _ _
+    part_written _ _ _ _ _ _ _ (line_gathered c.args.printed c.args.job.now c.loop-line.line-index _ _ _ _ _ _ _ _ _ _
     (c.lines-line-items.ensures ∙ ap (λ (j : Job). j.plan) c.job.view_is) c.loop-line-test.true c.line-item.is
+    (c.in_ok-add_prefix.ensures (state_up_to c.args.job.now c.loop-line.line-index) c.loop-line.invariant.at)
     (c.in_ok-answer.ensures.told (state_up_to c.args.job.now c.loop-line.line-index) c.loop-line.invariant.at) c.loop-line.invariant.gathered c.in_ok-extend_from_slice.ensures.items).0
     (subst (λ bytes. AppendsBeginning (g.O.Sink.written c.loop-line.output) (g.O.Sink.written c.write_lines.new.output) bytes) c.as_slice.ensures.value c.in_err-write_lines.ensures.err)
 
@@ -59,7 +64,7 @@ returns-clause-whole g c =
     let job : Job = c.args.job.now in
     let all : take c.loop-line.line-index job.plan ≡ job.plan
     = all_lines _ _ _ (c.lines-line-items.ensures ∙ ap (λ (j : Job). j.plan) c.job.view_is) c.loop-line-test.false in
-    on_ok_weaker c.write_lines-2.result (λ wrote. output_written _ _ _ _ _ _ all c.loop-line.invariant.gathered
+    on_ok_weaker c.write_lines-2.result (λ wrote. output_written _ _ _ _ _ _ _ all c.loop-line.invariant.gathered
     (subst (λ bytes. Appends (g.O.Sink.written c.loop-line.output) (g.O.Sink.written c.write_lines-2.new.output) bytes) c.as_slice-2.ensures.value wrote))
     c.write_lines-2.ensures.ok
 
@@ -67,8 +72,11 @@ pub returns-clause-beginning : goal.returns-clause-beginning
 returns-clause-beginning g c is =
     let part : AppendsBeginning (g.O.Sink.written c.loop-line.output) (g.O.Sink.written c.write_lines-2.new.output) c.as_slice-2.result.now
     = subst (λ r. OnErr r (AppendsBeginning (g.O.Sink.written c.loop-line.output) (g.O.Sink.written c.write_lines-2.new.output) c.as_slice-2.result.now)) is c.write_lines-2.ensures.err in
-    part_written c.args.job.now c.loop-line.line-index _ _ _ c.loop-line.text.items c.loop-line.invariant.gathered
+    part_written c.args.printed c.args.job.now c.loop-line.line-index _ _ _ c.loop-line.text.items c.loop-line.invariant.gathered
     (subst (λ bytes. AppendsBeginning (g.O.Sink.written c.loop-line.output) (g.O.Sink.written c.write_lines-2.new.output) bytes) c.as_slice-2.ensures.value part)
+
+pub returns-in_err-add_prefix-clause-lines : goal.returns-in_err-add_prefix-clause-lines
+returns-in_err-add_prefix-clause-lines g c is = (c.loop-line.invariant.gathered.lines, c.loop-line.invariant.gathered.wrote)
 
 pub returns-in_err-answer-clause-lines : goal.returns-in_err-answer-clause-lines
 returns-in_err-answer-clause-lines g c is = (c.loop-line.invariant.gathered.lines, c.loop-line.invariant.gathered.wrote)
@@ -108,5 +116,5 @@ loop-line-init g c = record {
   workers = c.requires.workers;
   fresh = c.requires.fresh;
   at = c.requires.initial_state;
-  gathered = gathered_none c.args.job.now (g.O.Sink.written c.args.output.now) c.args.text.now.items c.requires.empty;
+  gathered = gathered_none c.args.printed c.args.job.now (g.O.Sink.written c.args.output.now) c.args.text.now.items c.requires.empty;
 }
