@@ -2,7 +2,7 @@
 use Rattle.std.specs.Prelude.{ℕ, if◌then◌else◌, List, Option, Some, None, codes, option_map}
 use Rattle.std.specs.Str.{bytes_eq}
 use Rattle.run_command_line.specs.declared.command_line.Args.{Args}
-use Rattle.run_command_line.specs.declared.command_line.Args.TheVariants.{Replay, ReplayHistory, Threads, ThreadsHistory, Draw, Live, Explore, Check, Savings}
+use Rattle.run_command_line.specs.declared.command_line.Args.TheVariants.{Replay, ReplayHistory, ReplayEcho, Threads, ThreadsPaced, ThreadsHistory, ThreadsReport, Draw, Live, Explore, Check, Savings}
 use Rattle.run_command_line.specs.declared.explore_args.Told.{Told}
 use Rattle.run_command_line.specs.declared.explore_args.Told.TheVariants.{All, Outcome, Answer, Verdict}
 
@@ -14,8 +14,11 @@ file_at path = if bytes_eq path (codes "-") then None else Some path
 abbrev pub file_of : Args → Option (List ℕ)
 file_of (Replay path) = file_at path.now
 file_of (ReplayHistory path) = file_at path.now
+file_of (ReplayEcho path) = file_at path.now
 file_of (Threads path args) = file_at path.now
+file_of (ThreadsPaced path args) = file_at path.now
 file_of (ThreadsHistory path args) = file_at path.now
+file_of (ThreadsReport path args) = file_at path.now
 file_of (Draw path args) = file_at path.now
 file_of (Live args) = None
 file_of (Explore path args) = file_at path.now
@@ -33,8 +36,11 @@ expected_path_of (Verdict path) = option_map (λ path. path.now) path
 abbrev pub expected_file_of : Args → Option (List ℕ)
 expected_file_of (Replay path) = None
 expected_file_of (ReplayHistory path) = None
+expected_file_of (ReplayEcho path) = None
 expected_file_of (Threads path args) = None
+expected_file_of (ThreadsPaced path args) = None
 expected_file_of (ThreadsHistory path args) = None
+expected_file_of (ThreadsReport path args) = None
 expected_file_of (Draw path args) = None
 expected_file_of (Live args) = None
 expected_file_of (Explore path args) = expected_path_of args.told

@@ -30,6 +30,7 @@ use std::cell::Cell;
 use std::fs::File;
 use std::io::IsTerminal;
 use std::process::ExitCode;
+use std::rt::Clock;
 use std::sync::Wait;
 use std::thread::Threads;
 use std::{env, fs, io};
@@ -69,7 +70,7 @@ struct Asked<'a, R> {
 }
 
 /// Runs the command that the program is asked for, and returns the exit status.
-fn run_asked<R: Threads + Wait + Sync, O: Sink + Drop, E: Sink + Drop>(
+fn run_asked<R: Threads + Wait + Sync + Clock, O: Sink + Drop, E: Sink + Drop>(
     asked: &Asked<'_, R>,
     output: O,
     mut errors: E,
@@ -100,7 +101,7 @@ fn explains(request: &Request<'_>) -> bool {
 
 /// Runs the command that the program is asked for, explains the fault of its input if it has one, and returns the exit
 /// status. If the reader of standard output has gone, no fault is reported.
-fn run_explained<R: Threads + Wait + Sync>(asked: &Asked<'_, R>) -> u8 {
+fn run_explained<R: Threads + Wait + Sync + Clock>(asked: &Asked<'_, R>) -> u8 {
     let rt = asked.rt;
     let is_closed = Cell::new(false);
     let output = Output::new(Piped::new(rt.stdout(), &is_closed));
@@ -125,7 +126,7 @@ fn is_regular(rt: &HostRuntime, path: &str) -> bool {
 }
 
 /// Runs the command on an input with this name that can be read only once, and explains the fault of its text.
-fn run_kept<R: Threads + Wait + Sync, I: Source + Drop, O: Sink + Drop, E: Sink + Drop>(
+fn run_kept<R: Threads + Wait + Sync + Clock, I: Source + Drop, O: Sink + Drop, E: Sink + Drop>(
     asked: &Asked<'_, R>,
     name: &str,
     input: I,
@@ -158,7 +159,7 @@ fn explain_text<E: Sink>(
 }
 
 /// Runs the command on the file at the path, and explains the fault of its text, for which it reads the file again.
-fn run_file<R: Threads + Wait + Sync, O: Sink + Drop, E: Sink + Drop>(
+fn run_file<R: Threads + Wait + Sync + Clock, O: Sink + Drop, E: Sink + Drop>(
     asked: &Asked<'_, R>,
     path: &str,
     file: File,
@@ -218,8 +219,11 @@ fn path_of<'a>(args: &Args<'a>) -> Option<&'a str>
         Args::Live(_) => return None,
         Args::Replay(path)
         | Args::ReplayHistory(path)
+        | Args::ReplayEcho(path)
         | Args::Threads(path, _)
+        | Args::ThreadsPaced(path, _)
         | Args::ThreadsHistory(path, _)
+        | Args::ThreadsReport(path, _)
         | Args::Draw(path, _)
         | Args::Explore(path, _)
         | Args::Check(path, _)
@@ -241,7 +245,7 @@ fn file_at(path: &str) -> Option<&str>
 
 /// Runs the command with this input, output and error output. If the text of the expected outcomes can't be read, runs
 /// nothing.
-fn run_on<R: Threads + Wait + Sync, I: Source + Drop, O: Sink + Drop, E: Sink + Drop>(
+fn run_on<R: Threads + Wait + Sync + Clock, I: Source + Drop, O: Sink + Drop, E: Sink + Drop>(
     asked: &Asked<'_, R>,
     input: I,
     output: O,
@@ -255,7 +259,7 @@ fn run_on<R: Threads + Wait + Sync, I: Source + Drop, O: Sink + Drop, E: Sink + 
 }
 
 /// Runs the command on these devices, as `run_on` does.
-fn run_devices<R: Threads + Wait + Sync, I: Source + Drop, O: Sink + Drop, E: Sink + Drop>(
+fn run_devices<R: Threads + Wait + Sync + Clock, I: Source + Drop, O: Sink + Drop, E: Sink + Drop>(
     asked: &Asked<'_, R>,
     devices: Devices<I, O, E>,
 ) -> Ended<I, O, E>
@@ -275,11 +279,12 @@ fn run_devices<R: Threads + Wait + Sync, I: Source + Drop, O: Sink + Drop, E: Si
 /// Runs the command on these devices. `expected` is the text of the expected outcomes of an exploration. During an
 /// exploration, prints the number of states found so far on standard error, if standard error is a terminal or the
 /// arguments ask for progress.
-fn run_expecting<R: Threads + Wait + Sync, I: Source + Drop, O: Sink + Drop, E: Sink + Drop>(
-    asked: &Asked<'_, R>,
-    expected: Option<&[u8]>,
-    devices: Devices<I, O, E>,
-) -> Ended<I, O, E>
+fn run_expecting<
+    R: Threads + Wait + Sync + Clock,
+    I: Source + Drop,
+    O: Sink + Drop,
+    E: Sink + Drop,
+>(asked: &Asked<'_, R>, expected: Option<&[u8]>, devices: Devices<I, O, E>) -> Ended<I, O, E>
     requires { IsSound devices }
     ensures { EndsAs asked.now.request.now (option_copied expected.entry) devices result.devices result.status }
 {

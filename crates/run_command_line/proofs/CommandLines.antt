@@ -12,7 +12,7 @@ use Rattle.clap.specs.declared.parser.matches.Found.{Found}
 use Rattle.clap.proofs.OnLiterals.{clap_on_literals}
 use Rattle.clap.proofs.WalkLemmas.{first_value-rows}
 use Rattle.run_command_line.specs.Conditions.{ConditionTexts, no_condition}
-use Rattle.run_command_line.specs.CommandLine.{Asked, IsSaidOf, asked, asked_by, asked_in, asked_of, is_taken, kinds_of, check_of, draw_of, explore_of, live_of, meshrun_app, conditions_asked, conditions_found, conditions_in, explains_asked, explains_found, explains_in, replay_history_of, replay_of, savings_of, tells_all, tells_answer, tells_outcome, tells_verdict, threads_history_of, threads_of}
+use Rattle.run_command_line.specs.CommandLine.{Asked, IsSaidOf, asked, asked_by, asked_in, asked_of, is_taken, kinds_of, check_of, draw_of, explore_of, live_of, meshrun_app, conditions_asked, conditions_found, conditions_in, explains_asked, explains_found, explains_in, replay_echo_of, replay_history_of, replay_of, savings_of, tells_all, tells_answer, tells_outcome, tells_verdict, threads_history_of, threads_of, threads_report_of}
 
 -- the command line is one whose matches and faults `clap` tells
 pub is_told : is_simple_and_free meshrun_app ≡ true
@@ -111,21 +111,33 @@ spoken text = codes "meshrun" ∷ slice_split (λ b. nat_eq b 32) text
 abbrev Asks : Text → Asked → Type 0
 Asks text what = (is_taken (spoken text) ≡ true) × (asked (spoken text) ≡ Some what)
 
--- the answers of a replay are printed, or, with `--history` before the file or behind it, its history
+-- the answers of a replay are printed, or, with `--history` before the file or behind it, its history, or, with
+-- `--echo`, the plan's lines before their answers
 replays_are_asked :
     Asks (codes "replay hello.job") (replay_of (codes "hello.job"))
     × Asks (codes "replay --history hello.job") (replay_history_of (codes "hello.job"))
+    × Asks (codes "replay hello.job --explain --echo") (replay_echo_of (codes "hello.job"))
 unfolding clap_on_literals asked is_taken
-replays_are_asked = ((refl, refl), (refl, refl))
+replays_are_asked = ((refl, refl), (refl, refl), (refl, refl))
 
--- without `--meshers` one thread meshes; options stand in any order, and take the most that they may
+-- without `--meshers` one thread meshes, and without `--pace` no worker waits; options stand in any order, and take the
+-- least and the most that they may
 threads_are_asked :
     Asks (codes "threads a.job --probe 2 --rounds 3 --workers 4 --seed 5")
-    (threads_of (codes "a.job") (record { probe = 2; rounds = 3; workers = 4; seed = 5; meshers = 1 }))
-    × Asks (codes "threads --meshers=10 --seed=18446744073709551615 --workers=16 a.job --rounds=1000 --history --probe=64")
-    (threads_history_of (codes "a.job") (record { probe = 64; rounds = 1000; workers = 16; seed = 18446744073709551615; meshers = 10 }))
+    (threads_of (codes "a.job") (record { probe = 2; rounds = 3; workers = 4; seed = 5; meshers = 1; pace = None }))
+    × Asks (codes "threads --meshers=10 --pace=65536 --seed=18446744073709551615 --workers=16 a.job --rounds=1000 --history --probe=64")
+    (threads_history_of (codes "a.job") (record { probe = 64; rounds = 1000; workers = 16; seed = 18446744073709551615; meshers = 10; pace = Some 65536 }))
+    × Asks (codes "threads --report a.job --pace 1 --probe 0 --rounds 0 --workers 1 --seed 0")
+    (threads_report_of (codes "a.job") (record { probe = 0; rounds = 0; workers = 1; seed = 0; meshers = 1; pace = Some 1 }))
 unfolding clap_on_literals asked is_taken
-threads_are_asked = ((refl, refl), (refl, refl))
+threads_are_asked = ((refl, refl), (refl, refl), (refl, refl))
+
+-- a history is printed in place of all else: beside it neither lines nor a report
+histories_stand_alone :
+    (asked (spoken (codes "replay hello.job --history --echo")) ≡ None)
+    × (asked (spoken (codes "threads a.job --report --history --probe=2 --rounds=3 --workers=4 --seed=5")) ≡ None)
+unfolding clap_on_literals asked
+histories_stand_alone = (refl, refl)
 
 -- a picture is of the whole plan, in as many columns as fit, or of a part of it from a line to another, in the most
 -- columns
@@ -237,11 +249,15 @@ apart_asks_nothing :
 unfolding clap_on_literals asked
 apart_asks_nothing = (refl, refl)
 
--- the flag has no value, 17 threads make no search, there is no line 0, a session has no file, a picture isn't of a
--- history, a mesh has to be given, no round comes behind 0 frees, and an object has a configuration or more
+-- the flags have no value, 17 threads make no search, a worker waits behind 1 to 65,536 calls, there is no line 0, a
+-- session has no file, a picture isn't of a history, a mesh has to be given, no round comes behind 0 frees, and an
+-- object has a configuration or more
 are_refused :
     (is_taken (spoken (codes "replay hello.job --history=no")) ≡ false)
+    × (is_taken (spoken (codes "replay hello.job --echo=yes")) ≡ false)
     × (is_taken (spoken (codes "threads a.job --probe=2 --rounds=3 --workers=17 --seed=5")) ≡ false)
+    × (is_taken (spoken (codes "threads a.job --probe=2 --rounds=3 --workers=1 --seed=5 --pace=0")) ≡ false)
+    × (is_taken (spoken (codes "threads a.job --probe=2 --rounds=3 --workers=1 --seed=5 --pace=65537")) ≡ false)
     × (is_taken (spoken (codes "draw a.job --from=0")) ≡ false)
     × (is_taken (spoken (codes "live a.job")) ≡ false)
     × (is_taken (spoken (codes "draw a.job --history")) ≡ false)
@@ -249,7 +265,7 @@ are_refused :
     × (is_taken (spoken (codes "savings a.history --every=0")) ≡ false)
     × (is_taken (spoken (codes "check a.history --configurations=0")) ≡ false)
 unfolding clap_on_literals is_taken
-are_refused = (refl, refl, refl, refl, refl, refl, refl, refl)
+are_refused = (refl, refl, refl, refl, refl, refl, refl, refl, refl, refl, refl)
 
 -- no group is above 65,535, and there are just two, which are numbers: other words ask for nothing
 abbrev AsksNothing : Text → Type 0

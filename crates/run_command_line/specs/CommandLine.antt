@@ -16,7 +16,7 @@ use Rattle.run_command_line.specs.Meshes.{pairs_of}
 use Rattle.run_command_line.specs.Conditions.{ConditionTexts, conditions_of, has_condition, no_condition}
 use Rattle.run_command_line.specs.declared.check_args.CheckArgs.{CheckArgs}
 use Rattle.run_command_line.specs.declared.command_line.Args.{Args}
-use Rattle.run_command_line.specs.declared.command_line.Args.TheVariants.{Check, Draw, Explore, Live, Replay, ReplayHistory, Savings, Threads, ThreadsHistory}
+use Rattle.run_command_line.specs.declared.command_line.Args.TheVariants.{Check, Draw, Explore, Live, Replay, ReplayEcho, ReplayHistory, Savings, Threads, ThreadsHistory, ThreadsPaced, ThreadsReport}
 use Rattle.run_command_line.specs.declared.requested.Request.{Request}
 use Rattle.run_command_line.specs.declared.stop.Stop.{Stop}
 use Rattle.run_command_line.specs.declared.draw_args.DrawArgs.{DrawArgs}
@@ -27,6 +27,7 @@ use Rattle.run_command_line.specs.declared.explore_args.Told.TheVariants.{All, A
 use Rattle.explore_interleavings.specs.declared.pair.MeshPair.{MeshPair}
 use Rattle.run_command_line.specs.declared.live_args.LiveArgs.{LiveArgs}
 use Rattle.run_command_line.specs.declared.savings_args.SavingsArgs.{SavingsArgs}
+use Rattle.run_command_line.specs.declared.threads_args.PacedArgs.{PacedArgs}
 use Rattle.run_command_line.specs.declared.threads_args.ThreadsArgs.{ThreadsArgs}
 
 -- ---- what the program takes
@@ -64,16 +65,17 @@ texts_rule name = record (text_rule name) { action = Some Append }
 abbrev pub mesh_rule : Rule
 mesh_rule = record (new_rule (codes "mesh")) { long = Some (codes "mesh"); action = Some Append; required = true; value_names = 1 }
 
--- `replay FILE [--history] [--explain]`
+-- `replay FILE [--history | --echo] [--explain]`
 abbrev pub replay_app : App
-replay_app = with_rule (with_rule (with_rule (new_app (codes "replay")) file_rule) (flag_rule (codes "history"))) (flag_rule (codes "explain"))
+replay_app = with_rule (with_rule (with_rule (with_rule (new_app (codes "replay")) file_rule) (flag_rule (codes "history")))
+    (flag_rule (codes "echo"))) (flag_rule (codes "explain"))
 
--- `threads FILE --probe T --rounds R --workers N --seed S [--meshers M] [--history] [--explain]`
+-- `threads FILE --probe T --rounds R --workers N --seed S [--meshers M] [--pace N] [--history | --report] [--explain]`
 abbrev pub threads_app : App
-threads_app = with_rule (with_rule (with_rule (with_rule (with_rule (with_rule (with_rule (with_rule (new_app (codes "threads")) file_rule)
+threads_app = with_rule (with_rule (with_rule (with_rule (with_rule (with_rule (with_rule (with_rule (with_rule (with_rule (new_app (codes "threads")) file_rule)
     (required_number (codes "probe") 0 64)) (required_number (codes "rounds") 0 1000)) (required_number (codes "workers") 1 16))
     (required_number (codes "seed") 0 18446744073709551615)) (number_or (codes "meshers") 1 10 (codes "1")))
-    (flag_rule (codes "history"))) (flag_rule (codes "explain"))
+    (number_rule (codes "pace") 1 65536)) (flag_rule (codes "history"))) (flag_rule (codes "report"))) (flag_rule (codes "explain"))
 
 -- `draw FILE [--from N] [--to N] [--columns N]`
 abbrev pub draw_app : App
@@ -124,13 +126,15 @@ meshrun_app = with_subcommand (with_subcommand (with_subcommand runs_app explore
 
 -- the numbers that `threads` is asked for. `probe` is the most rounds of tries in a search, `rounds` the number of
 -- times that each mesher searches and meshes. `workers` threads make a search, `seed` gives the words of the shuffles,
--- and `meshers` threads mesh
+-- and `meshers` threads mesh. If `pace` is given, a worker waits behind each that many of its calls until a mesher has
+-- made a call
 pub record Numbers : Type 0 where
   pub probe : ℕ
   pub rounds : ℕ
   pub workers : ℕ
   pub seed : ℕ
   pub meshers : ℕ
+  pub pace : Option ℕ
 
 -- the part of a plan that `draw` is asked for: the lines `from` to `to`, in this number of columns. 0 columns are as
 -- many as fit
@@ -194,8 +198,10 @@ pub record Compared : Type 0 where
 
 -- what the program is asked for. `check_of` and `savings_of` have the path of a recorded history, the others but
 -- `live_of` the path of a job file:
--- - `replay_of`: a replay; `replay_history_of`: the recorded history of the replay
--- - `threads_of`: a run of the scripts by threads; `threads_history_of`: the recorded history of the run
+-- - `replay_of`: a replay; `replay_history_of`: the recorded history of the replay; `replay_echo_of`: the plan's lines
+--   with the commands that are attempted at them and their answers
+-- - `threads_of`: a run of the scripts by threads; `threads_history_of`: the recorded history of the run;
+--   `threads_report_of`: the run, with a report on its threads and its heap
 -- - `draw_of`: a picture of part of the plan
 -- - `explore_of`: an exploration of the commands that the plan leaves
 -- - `live_of`: a session of these sizes
@@ -203,8 +209,10 @@ pub record Compared : Type 0 where
 pub data Asked : Type 0 where
   replay_of : Text → Asked
   replay_history_of : Text → Asked
+  replay_echo_of : Text → Asked
   threads_of : Text → Numbers → Asked
   threads_history_of : Text → Numbers → Asked
+  threads_report_of : Text → Numbers → Asked
   draw_of : Text → Shown → Asked
   explore_of : Text → Explored → Asked
   live_of : SessionSizes → Asked
@@ -227,31 +235,57 @@ flag_in name rows = option_map (λ value. bytes_eq value (codes "true")) (first_
 abbrev pub is_recorded_in : List Row → Option Bool
 is_recorded_in rows = flag_in (codes "history") rows
 
--- what `replay` asks for: with `--history` the recorded history, and otherwise the replay
-abbrev pub replay_by : Text → Bool → Asked
-replay_by file recorded = if recorded then replay_history_of file else replay_of file
+-- whether the flag `--echo` is given
+abbrev pub is_echoed_in : List Row → Option Bool
+is_echoed_in rows = flag_in (codes "echo") rows
 
--- what `threads` asks for with these numbers: with `--history` the recorded history, and otherwise the answers
-abbrev pub threads_by : Text → Numbers → Bool → Asked
-threads_by file numbers recorded = if recorded then threads_history_of file numbers else threads_of file numbers
+-- whether the flag `--report` is given
+abbrev pub is_reported_in : List Row → Option Bool
+is_reported_in rows = flag_in (codes "report") rows
+
+-- what `replay` asks for: with `--history` the recorded history, with `--echo` the plan's lines before their answers,
+-- and otherwise the answers. The two flags exclude each other
+abbrev pub replay_by : Text → Bool → Bool → Option Asked
+replay_by file true true = None
+replay_by file true false = Some (replay_history_of file)
+replay_by file false true = Some (replay_echo_of file)
+replay_by file false false = Some (replay_of file)
+
+-- what `replay` asks for according to its matches
+abbrev pub replay_in : Text → List Row → Option Asked
+replay_in file rows = option_and_then (λ recorded. option_and_then (replay_by file recorded) (is_echoed_in rows)) (is_recorded_in rows)
+
+-- what `threads` asks for with these numbers: with `--history` the recorded history, with `--report` the answers and a
+-- report behind them, and otherwise the answers. The two flags exclude each other
+abbrev pub threads_by : Text → Numbers → Bool → Bool → Option Asked
+threads_by file numbers true true = None
+threads_by file numbers true false = Some (threads_history_of file numbers)
+threads_by file numbers false true = Some (threads_report_of file numbers)
+threads_by file numbers false false = Some (threads_of file numbers)
+
+-- the number in the matches for an option, if the option is given. The outer `None` is a number that isn't in the range
+abbrev pub given_in : Text → ℕ → ℕ → List Row → Option (Option ℕ)
+given_in name least most rows = if is_some (first_of name rows) then option_map Some (number_in name least most rows) else Some None
 
 -- the numbers of `threads` in the matches
 abbrev pub numbers_in : List Row → Option Numbers
 numbers_in rows =
-    option_and_then (λ probe. option_and_then (λ rounds. option_and_then (λ workers. option_and_then (λ seed.
-    option_map (λ meshers. record { probe = probe; rounds = rounds; workers = workers; seed = seed; meshers = meshers })
-    (number_in (codes "meshers") 1 10 rows)) (number_in (codes "seed") 0 18446744073709551615 rows)) (number_in (codes "workers") 1 16 rows))
+    option_and_then (λ probe. option_and_then (λ rounds. option_and_then (λ workers. option_and_then (λ seed. option_and_then (λ meshers.
+    option_map (λ pace. record { probe = probe; rounds = rounds; workers = workers; seed = seed; meshers = meshers; pace = pace })
+    (given_in (codes "pace") 1 65536 rows)) (number_in (codes "meshers") 1 10 rows)) (number_in (codes "seed") 0 18446744073709551615 rows)) (number_in (codes "workers") 1 16 rows))
     (number_in (codes "rounds") 0 1000 rows)) (number_in (codes "probe") 0 64 rows)
+
+-- what `threads` asks for according to its matches
+abbrev pub threads_in : Text → List Row → Option Asked
+threads_in file rows =
+    option_and_then (λ numbers. option_and_then (λ recorded. option_and_then (threads_by file numbers recorded) (is_reported_in rows)) (is_recorded_in rows))
+    (numbers_in rows)
 
 -- the part of a plan in the matches of `draw`
 abbrev pub shown_in : List Row → Option Shown
 shown_in rows =
     option_and_then (λ from. option_and_then (λ to. option_map (λ columns. record { from = from; to = to; columns = columns })
     (number_in (codes "columns") 0 64 rows)) (number_in (codes "to") 1 1048576 rows)) (number_in (codes "from") 1 1048576 rows)
-
--- the number in the matches for an option, if the option is given. The outer `None` is a number that isn't in the range
-abbrev pub given_in : Text → ℕ → ℕ → List Row → Option (Option ℕ)
-given_in name least most rows = if is_some (first_of name rows) then option_map Some (number_in name least most rows) else Some None
 
 -- the group that this text names. Its number is spelt as in any option, and is at most 65535
 abbrev pub group_of : Text → Option ℕ
@@ -391,8 +425,8 @@ sizes_in rows =
 -- these subcommands, because it needs no file
 abbrev pub asked_of : ConditionTexts → Text → List Row → Text → Option Asked
 asked_of conditions name rows file =
-    if bytes_eq name (codes "replay") then option_map (replay_by file) (is_recorded_in rows)
-    else (if bytes_eq name (codes "threads") then option_and_then (λ numbers. option_map (threads_by file numbers) (is_recorded_in rows)) (numbers_in rows)
+    if bytes_eq name (codes "replay") then replay_in file rows
+    else (if bytes_eq name (codes "threads") then threads_in file rows
     else (if bytes_eq name (codes "draw") then option_map (draw_of file) (shown_in rows)
     else (if bytes_eq name (codes "explore") then option_map (explore_of file) (explored_in conditions rows)
     else (if bytes_eq name (codes "check") then option_map (check_of file) (checked_in rows)
@@ -448,8 +482,14 @@ unfoldable pub kinds_of : List Text → Kinds
 kinds_of words = fault_of meshrun_app words
 
 -- the numbers of parsed arguments for `threads`
-abbrev pub numbers_of : ThreadsArgs → Numbers
-numbers_of args = record { probe = args.probe; rounds = args.rounds; workers = args.workers; seed = args.seed; meshers = args.meshers }
+abbrev pub numbers_of : PacedArgs → Numbers
+numbers_of paced =
+    let args = paced.args in
+    record { probe = args.probe; rounds = args.rounds; workers = args.workers; seed = args.seed; meshers = args.meshers; pace = paced.pace }
+
+-- the arguments of workers that don't wait
+abbrev pub unpaced : ThreadsArgs → PacedArgs
+unpaced args = record { args = args; pace = None }
 
 -- the part of a plan in parsed arguments for `draw`
 abbrev pub shown_of : DrawArgs → Shown
@@ -494,8 +534,11 @@ sizes_of args = record { pages = args.pages; history = args.history; workers = a
 abbrev pub asking : ConditionTexts → Args → Asked
 asking conditions (Replay path) = replay_of path.now
 asking conditions (ReplayHistory path) = replay_history_of path.now
-asking conditions (Threads path args) = threads_of path.now (numbers_of args)
+asking conditions (ReplayEcho path) = replay_echo_of path.now
+asking conditions (Threads path args) = threads_of path.now (numbers_of (unpaced args))
+asking conditions (ThreadsPaced path args) = threads_of path.now (numbers_of args)
 asking conditions (ThreadsHistory path args) = threads_history_of path.now (numbers_of args)
+asking conditions (ThreadsReport path args) = threads_report_of path.now (numbers_of args)
 asking conditions (Draw path args) = draw_of path.now (shown_of args)
 asking conditions (Explore path args) = explore_of path.now (explored_of conditions args)
 asking conditions (Live args) = live_of (sizes_of args)

@@ -18,7 +18,8 @@ use crate::stop::stop_of;
 use crate::threads::threads;
 use crate::values::is_given;
 use crate::{
-    CheckArgs, Conditions, DrawArgs, ExploreArgs, LiveArgs, Request, SavingsArgs, Stop, ThreadsArgs,
+    CheckArgs, Conditions, DrawArgs, ExploreArgs, LiveArgs, PacedArgs, Request, SavingsArgs, Stop,
+    ThreadsArgs,
 };
 use clap::{ArgMatches, Command, Error};
 use std::alloc::Global;
@@ -31,11 +32,19 @@ pub enum Args<'a> {
     Replay(&'a str),
     /// `replay FILE --history`: replay the job file at this path, and print the journal as a recorded history.
     ReplayHistory(&'a str),
+    /// `replay FILE --echo`: replay the job file at this path, and print each line of the plan, with the command that a
+    /// worker attempts at it, before its answer.
+    ReplayEcho(&'a str),
     /// `threads FILE ..`: run the scripts of the job file at this path in threads, and print each worker's answers.
     Threads(&'a str, ThreadsArgs),
+    /// `threads FILE .. --pace N`: the same, with workers that wait for meshers.
+    ThreadsPaced(&'a str, PacedArgs),
     /// `threads FILE .. --history`: run the scripts of the job file at this path in threads, and print the journal as a
     /// recorded history.
-    ThreadsHistory(&'a str, ThreadsArgs),
+    ThreadsHistory(&'a str, PacedArgs),
+    /// `threads FILE .. --report`: run the scripts of the job file at this path in threads, and print each worker's
+    /// answers. Behind them, print what each mesher and each worker did, and the heap's report.
+    ThreadsReport(&'a str, PacedArgs),
     /// `draw FILE ..`: draw the plan of the job file at this path, from one line to another.
     Draw(&'a str, DrawArgs),
     /// `live ..`: answer the lines of standard input, on a heap with these sizes.

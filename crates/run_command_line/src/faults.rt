@@ -5,12 +5,20 @@ ghost use Rattle.clap.specs.Words.{kind_of};
 use crate::clap_command::{PROGRAM, subcommand_of};
 use crate::conditions::texts;
 use crate::mesh_texts::{first_unread, meshes};
-use crate::options::{ALWAYS, CONDITION, EXISTS, EXPLORE, MESH, NEVER, SAVINGS, SHOW, Subcommand};
+use crate::options::{
+    ALWAYS, CONDITION, EXISTS, EXPLORE, MESH, NEVER, REPLAY, SAVINGS, SHOW, Subcommand, THREADS,
+};
 use crate::told::shown_answer;
 use clap::error::ErrorKind;
 use clap::{ArgMatches, Command, Error};
 use std::alloc::{AllocError, Global};
 use std::convert::AsStr;
+
+/// The error message if both flags of `replay` that replace the answers are given.
+const REPLAYED_TWICE: &str = "--history and --echo exclude each other";
+
+/// The error message if both flags of `threads` that select what is printed are given.
+const THREADS_TWICE: &str = "--history and --report exclude each other";
 
 /// The error message if options of `explore` exclude each other.
 const TOLD_TWICE: &str =
@@ -36,8 +44,8 @@ pub(crate) fn program_name<'a, S: AsStr>(words: &'a [S]) -> &'a str {
     }
 }
 
-/// Returns the error for options of `explore` or `savings` that `clap` accepts, but the program doesn't. The only error
-/// of the call itself is an allocation failure.
+/// Returns the error for options of `replay`, `threads`, `explore` or `savings` that `clap` accepts, but the program
+/// doesn't. The only error of the call itself is an allocation failure.
 pub(crate) fn unread<'a>(
     alloc: Global,
     program: &str,
@@ -46,9 +54,25 @@ pub(crate) fn unread<'a>(
     ensures { IfOk result (λ error. kind_of error ≡ ErrorKind.ValueValidation) }
 {
     match matches.subcommand() {
+        Some(("replay", _)) => replay_fault(alloc, program),
+        Some(("threads", _)) => threads_fault(alloc, program),
         Some(("explore", matches)) => explore_fault(alloc, program, matches),
         _ => savings_fault(alloc, program),
     }
+}
+
+/// Returns the error for options of `replay` that the program doesn't accept.
+fn replay_fault(alloc: Global, program: &str) -> Result<Error, AllocError>
+    ensures { IfOk result (λ error. kind_of error ≡ ErrorKind.ValueValidation) }
+{
+    fault_of(alloc, program, &REPLAY, REPLAYED_TWICE)
+}
+
+/// Returns the error for options of `threads` that the program doesn't accept.
+fn threads_fault(alloc: Global, program: &str) -> Result<Error, AllocError>
+    ensures { IfOk result (λ error. kind_of error ≡ ErrorKind.ValueValidation) }
+{
+    fault_of(alloc, program, &THREADS, THREADS_TWICE)
 }
 
 /// Returns the error for options of `explore` that the program doesn't accept.

@@ -44,4 +44,4 @@ pub use requested::Request;
 pub use savings_args::SavingsArgs;
 pub use stop::{Stop, unread_words};
 pub use texts::Texts;
-pub use threads_args::ThreadsArgs;
+pub use threads_args::{PacedArgs, ThreadsArgs};

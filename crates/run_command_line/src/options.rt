@@ -6,6 +6,12 @@ pub(crate) const FILE: &str = "FILE";
 /// The name of the flag that asks for a recorded history.
 pub(crate) const RECORDED: &str = "history";
 
+/// The name of the flag that asks for the plan's lines before their answers.
+pub(crate) const ECHO: &str = "echo";
+
+/// The name of the flag that asks for a report behind the answers.
+pub(crate) const REPORT: &str = "report";
+
 /// The name of the flag that sets all words of objects to 0.
 pub(crate) const FIRST_FIT: &str = "first-fit";
 
@@ -112,6 +118,18 @@ const MESHERS_OPTION: NumberOption = NumberOption {
     range: MESHERS,
     value: "M",
     help: "How many threads mesh, 1 to 10",
+};
+
+pub(crate) const PACE: NumberRange = NumberRange {
+    name: "pace",
+    least: 1,
+    most: 65536,
+};
+
+const PACE_OPTION: NumberOption = NumberOption {
+    range: PACE,
+    value: "N",
+    help: "Let a worker wait behind each N of its calls until a mesher has made a call, 1 to 65536",
 };
 
 pub(crate) const FROM: NumberRange = NumberRange {
@@ -364,6 +382,62 @@ pub(crate) struct Subcommand {
 /// The help text of the file argument, for subcommands that read a recorded history.
 const HISTORY_FILE: &str = "The recorded history, or - for standard input";
 
+/// Examples of `replay`: the answers, and the answers behind the plan's lines.
+const REPLAY_EXAMPLES: &str = "\
+Examples:
+  meshrun replay jobs/examples/mesh.job
+  meshrun replay jobs/examples/mesh.job --echo";
+
+/// The subcommand `replay`.
+pub(crate) const REPLAY: Subcommand = Subcommand {
+    name: "replay",
+    about: "Run a job file's plan and print one answer a line",
+    example: REPLAY_EXAMPLES,
+    arguments: &[
+        Argument::File("The job file to replay; - is standard input"),
+        Argument::Flag(
+            RECORDED,
+            "Print the journal as a recorded history instead of the answers",
+        ),
+        Argument::Flag(
+            ECHO,
+            "Print each line of the plan, with the command that a worker attempts at it, before its answer",
+        ),
+        Argument::Flag(EXPLAIN, EXPLAIN_HELP),
+    ],
+};
+
+/// Examples of `threads`: the answers, and the answers with a report behind them.
+const THREADS_EXAMPLES: &str = "\
+Examples:
+  meshrun threads jobs/examples/threads.job --probe 8 --rounds 3 --workers 2 --seed 1 --meshers 2
+  meshrun threads jobs/examples/mesh.job --probe 64 --rounds 10 --workers 2 --seed 1 --pace 1 --report";
+
+/// The subcommand `threads`.
+pub(crate) const THREADS: Subcommand = Subcommand {
+    name: "threads",
+    about: "Run each script of a job file on a thread of its own while other threads mesh, and print the answers",
+    example: THREADS_EXAMPLES,
+    arguments: &[
+        Argument::File("The job file, whose plan is not used; - is standard input"),
+        Argument::Required(PROBE_OPTION),
+        Argument::Required(ROUNDS_OPTION),
+        Argument::Required(WORKERS_OPTION),
+        Argument::Required(SEED_OPTION),
+        Argument::Default(MESHERS_OPTION, "1"),
+        Argument::Optional(PACE_OPTION),
+        Argument::Flag(
+            RECORDED,
+            "Print the history of all threads as a recorded history instead of each worker's answers",
+        ),
+        Argument::Flag(
+            REPORT,
+            "Print behind the answers what each mesher and each worker did, and the heap's report",
+        ),
+        Argument::Flag(EXPLAIN, EXPLAIN_HELP),
+    ],
+};
+
 /// Examples of `explore`: a listing, and a verdict of each kind.
 const EXPLORE_EXAMPLES: &str = "\
 Examples:
@@ -422,37 +496,8 @@ pub(crate) const SAVINGS: Subcommand = Subcommand {
 
 /// The subcommands that run a heap, in the order in which the help shows them.
 pub(crate) const RUNS: &[Subcommand] = &[
-    Subcommand {
-        name: "replay",
-        about: "Run a job file's plan and print one answer a line",
-        example: "Example: meshrun replay jobs/examples/mesh.job",
-        arguments: &[
-            Argument::File("The job file to replay; - is standard input"),
-            Argument::Flag(
-                RECORDED,
-                "Print the journal as a recorded history instead of the answers",
-            ),
-            Argument::Flag(EXPLAIN, EXPLAIN_HELP),
-        ],
-    },
-    Subcommand {
-        name: "threads",
-        about: "Run each script of a job file on a thread of its own while other threads mesh, and print the answers",
-        example: "Example: meshrun threads jobs/examples/threads.job --probe 8 --rounds 3 --workers 2 --seed 1 --meshers 2",
-        arguments: &[
-            Argument::File("The job file, whose plan is not used; - is standard input"),
-            Argument::Required(PROBE_OPTION),
-            Argument::Required(ROUNDS_OPTION),
-            Argument::Required(WORKERS_OPTION),
-            Argument::Required(SEED_OPTION),
-            Argument::Default(MESHERS_OPTION, "1"),
-            Argument::Flag(
-                RECORDED,
-                "Print the history of all threads as a recorded history instead of each worker's answers",
-            ),
-            Argument::Flag(EXPLAIN, EXPLAIN_HELP),
-        ],
-    },
+    REPLAY,
+    THREADS,
     Subcommand {
         name: "draw",
         about: "Draw a job file's plan as an SVG picture and print it",

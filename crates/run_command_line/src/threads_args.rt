@@ -17,3 +17,13 @@ pub struct ThreadsArgs {
     pub meshers: u32,
     pub ghost ranges: { AreInRange probe rounds workers meshers },
 }
+
+/// The arguments of `threads` with the pace of the workers.
+#[derive(Clone, Copy)]
+pub struct PacedArgs {
+    /// The arguments other than the pace.
+    pub args: ThreadsArgs,
+    /// The number of calls behind which a worker waits until a mesher has made a call, 1 to 65,536. `None` if workers
+    /// don't wait.
+    pub pace: Option<u32>,
+}

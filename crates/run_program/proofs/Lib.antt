@@ -8,4 +8,5 @@ mod OrderStops
 pub mod SavingsEnds
 pub mod ThreadEnds
 mod TwoClauses
+mod UnopenedLines
 pub mod WordCounts

@@ -6,6 +6,7 @@ use Rattle.run_program.specs.Seen.{Seen}
 use Rattle.run_program.specs.Threads.{EndsThreads, HasFailedRun, HasStoppedRun, threads_status, threads_text}
 use Rattle.run_program.specs.declared.printed.Printed.{Printed}
 use Rattle.run_program.specs.declared.threads_error.ThreadsError.{ThreadsError}
+use Rattle.run_command_line.specs.declared.threads_args.ThreadsArgs.{ThreadsArgs}
 use Rattle.run_program.specs.declared.threads_error.ThreadsError.TheVariants.{Replay, TooShort, Thread, Run}
 use Rattle.text_devices.specs.declared.faults.ReplayError.TheVariants.{Read, Write, Memory, Text}
 
@@ -20,10 +21,10 @@ status_bounds Thread = (omega arith, omega arith)
 status_bounds Run = (omega arith, omega arith)
 
 -- a run that stopped for an error, and told it, ends with its status
-pub stopped_ends : (printed : Printed) (before after : Seen) (error : ThreadsError) (status : ℕ) → status ≡ threads_status error
-    → HasStoppedRun printed before.left after.left before.written after.written error → HasFailedRun after.input_failed after.output_failed error
-    → HasTold after.errors_failed before.told after.told (ended (threads_text error)) → EndsThreads printed before after status
-stopped_ends printed before after error status is known failed told =
+pub stopped_ends : (printed : Printed) (args : ThreadsArgs) (before after : Seen) (error : ThreadsError) (status : ℕ) → status ≡ threads_status error
+    → HasStoppedRun printed args before.left after.left before.written after.written error → HasFailedRun after.input_failed after.output_failed error
+    → HasTold after.errors_failed before.told after.told (ended (threads_text error)) → EndsThreads printed args before after status
+stopped_ends printed args before after error status is known failed told =
     let bounds = status_bounds error in
     record {
       done = λ none. absurd (omega (arith, bounds.0, is, none));

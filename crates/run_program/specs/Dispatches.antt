@@ -2,11 +2,12 @@
 use Rattle.std.specs.Prelude.{◌≡◌, ℕ, Bool, true, false, List, Option}
 use Rattle.std.specs.Io.KnownBytes.{prepend_known}
 use Rattle.std.specs.Option.{option_copied}
+use Rattle.mesh_text.specs.Echo.{HasEchoed, HasStoppedEcho}
 use Rattle.mesh_text.specs.Recorded.{HasReplayedRecorded, HasStoppedRecorded}
 use Rattle.mesh_text.specs.Replay.{HasReplayed, HasStopped}
 use Rattle.run_command_line.specs.Conditions.{ConditionTexts, conditions_of}
 use Rattle.run_command_line.specs.declared.command_line.Args.{Args}
-use Rattle.run_command_line.specs.declared.command_line.Args.TheVariants.{Replay, ReplayHistory, Threads, ThreadsHistory, Draw, Live, Explore, Check, Savings}
+use Rattle.run_command_line.specs.declared.command_line.Args.TheVariants.{Replay, ReplayHistory, ReplayEcho, Threads, ThreadsHistory, ThreadsPaced, ThreadsReport, Draw, Live, Explore, Check, Savings}
 use Rattle.run_command_line.specs.declared.explore_args.ExploreArgs.{ExploreArgs}
 use Rattle.run_command_line.specs.declared.requested.Request.{Request}
 use Rattle.run_program.specs.Checks.{EndsCheck}
@@ -20,7 +21,7 @@ use Rattle.run_program.specs.Savings.{EndsSavings, options_of}
 use Rattle.run_program.specs.Seen.{Seen, seen}
 use Rattle.run_program.specs.Threads.{EndsThreads}
 use Rattle.run_program.specs.declared.criteria.Criteria.{Criteria}
-use Rattle.run_program.specs.declared.printed.Printed.TheVariants.{Answers, History}
+use Rattle.run_program.specs.declared.printed.Printed.TheVariants.{Answers, History, Report}
 
 -- how a replay ends that prints the answers
 abbrev pub EndsReplay : Seen → Seen → ℕ → Type 0
@@ -29,6 +30,10 @@ EndsReplay before after status = Ends HasReplayed HasStopped before after status
 -- how a replay ends that prints the recorded history
 abbrev pub EndsRecorded : Seen → Seen → ℕ → Type 0
 EndsRecorded before after status = Ends HasReplayedRecorded HasStoppedRecorded before after status
+
+-- how a replay ends that prints each line of the plan before its answer
+abbrev pub EndsEcho : Seen → Seen → ℕ → Type 0
+EndsEcho before after status = Ends HasEchoed HasStoppedEcho before after status
 
 -- how an exploration ends whose criteria have this text of expected outcomes and these texts of conditions
 abbrev pub EndsExploreBy : ExploreArgs → ConditionTexts → Option (List ℕ) → Seen → Seen → ℕ → Type 0
@@ -53,8 +58,11 @@ EndsCheckBy false most before after status = EndsJudgement most before after sta
 abbrev pub EndsAsked : Args → ConditionTexts → Option (List ℕ) → Seen → Seen → ℕ → Type 0
 EndsAsked (Replay path) conditions expected before after status = EndsReplay before after status
 EndsAsked (ReplayHistory path) conditions expected before after status = EndsRecorded before after status
-EndsAsked (Threads path args) conditions expected before after status = EndsThreads Answers before after status
-EndsAsked (ThreadsHistory path args) conditions expected before after status = EndsThreads History before after status
+EndsAsked (ReplayEcho path) conditions expected before after status = EndsEcho before after status
+EndsAsked (Threads path args) conditions expected before after status = EndsThreads Answers args before after status
+EndsAsked (ThreadsPaced path paced) conditions expected before after status = EndsThreads Answers paced.args before after status
+EndsAsked (ThreadsHistory path paced) conditions expected before after status = EndsThreads History paced.args before after status
+EndsAsked (ThreadsReport path paced) conditions expected before after status = EndsThreads Report paced.args before after status
 EndsAsked (Draw path args) conditions expected before after status = EndsDraw path.now args before after status
 EndsAsked (Live args) conditions expected before after status = EndsLive (session_sizes args) before after status
 EndsAsked (Explore path args) conditions expected before after status = EndsExploreBy args conditions expected before after status

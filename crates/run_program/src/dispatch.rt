@@ -1,7 +1,7 @@
 //! The run that a command line asks for.
 ghost use Rattle.std.specs.Option.{option_copied};
 ghost use Rattle.run_command_line.specs.Conditions.{conditions_of};
-ghost use Rattle.run_program.specs.Dispatches.{EndsAs, EndsCheckBy, EndsExploreBy, EndsJudgement, EndsRecorded, EndsReplay};
+ghost use Rattle.run_program.specs.Dispatches.{EndsAs, EndsCheckBy, EndsEcho, EndsExploreBy, EndsJudgement, EndsRecorded, EndsReplay};
 ghost use Rattle.run_program.specs.Draws.{EndsDraw, EndsLive};
 ghost use Rattle.run_program.specs.LiveSizes.{session_sizes};
 ghost use Rattle.run_program.specs.Orders.{EndsOrder};
@@ -15,15 +15,18 @@ use crate::draw::draw_run;
 use crate::explore::explore_run;
 use crate::live::live_run;
 use crate::order::order_run;
-use crate::runs::{replay_history_run, replay_run};
+use crate::printed::Printed;
+use crate::runs::{replay_echo_run, replay_history_run, replay_run};
 use crate::savings::savings_run;
-use crate::threads::{threads_history_run, threads_run};
+use crate::threads::printed_run;
 use crate::{
     Args, Begun, CheckArgs, Conditions, Criteria, Devices, DrawArgs, ExploreArgs, LiveArgs,
-    Request, SavingsArgs, ThreadsArgs,
+    PacedArgs, Request, SavingsArgs, ThreadsArgs,
 };
+use mesh_shared::{NoGate, Pace};
 use states_reach::Watch;
 use std::alloc::Global;
+use std::rt::Clock;
 use std::sync::Wait;
 use std::thread::Threads;
 use text_devices::{Sink, Source};
@@ -39,7 +42,13 @@ pub struct Ended<I: Source, O: Sink, E: Sink> {
 
 /// Runs the subcommand that is requested, with its arguments and its conditions. `expected` is the text of the expected
 /// outcomes of an exploration, whose progress is reported to `watch`.
-pub fn run<R: Threads + Wait + Sync, I: Source + Drop, O: Sink + Drop, E: Sink + Drop, W: Watch>(
+pub fn run<
+    R: Threads + Wait + Sync + Clock,
+    I: Source + Drop,
+    O: Sink + Drop,
+    E: Sink + Drop,
+    W: Watch,
+>(
     threads: &R,
     alloc: Global,
     request: &Request<'_>,
@@ -53,8 +62,17 @@ pub fn run<R: Threads + Wait + Sync, I: Source + Drop, O: Sink + Drop, E: Sink +
     match &request.args {
         Args::Replay(_) => replay(alloc, devices),
         Args::ReplayHistory(_) => replay_history(alloc, devices),
-        Args::Threads(_, args) => run_scripts(threads, alloc, args, devices),
-        Args::ThreadsHistory(_, args) => record_scripts(threads, alloc, args, devices),
+        Args::ReplayEcho(_) => replay_echo(alloc, devices),
+        Args::Threads(_, args) => run_scripts(threads, alloc, args, Printed::Answers, devices),
+        Args::ThreadsPaced(_, paced) => {
+            run_paced(threads, alloc, paced, Printed::Answers, devices)
+        }
+        Args::ThreadsHistory(_, paced) => {
+            run_paced(threads, alloc, paced, Printed::History, devices)
+        }
+        Args::ThreadsReport(_, paced) => {
+            run_paced(threads, alloc, paced, Printed::Report, devices)
+        }
         Args::Draw(path, args) => draw(alloc, path, args, devices),
         Args::Explore(_, args) => {
             explore(alloc, args, &request.conditions, expected, devices, watch)
@@ -94,38 +112,50 @@ fn replay_history<I: Source, O: Sink, E: Sink>(
     Ended { status, devices }
 }
 
-/// Runs a job's scripts in threads, and prints each worker's answers.
+/// Replays a job, and prints each line of the plan before its answer.
+fn replay_echo<I: Source, O: Sink, E: Sink>(
+    alloc: Global,
+    mut devices: Devices<I, O, E>,
+) -> Ended<I, O, E>
+    requires { IsSound devices }
+    ensures { EndsEcho devices result.devices result.status }
+{
+    let status = replay_echo_run(alloc, &mut devices);
+    Ended { status, devices }
+}
+
+/// Runs a job's scripts in threads, and prints what is asked for. With a pace, each worker waits behind each call of
+/// this number until a mesher has made a call.
+fn run_paced<R: Threads + Wait + Sync + Clock, I: Source, O: Sink, E: Sink>(
+    threads: &R,
+    alloc: Global,
+    paced: &PacedArgs,
+    printed: Printed,
+    mut devices: Devices<I, O, E>,
+) -> Ended<I, O, E>
+    requires { IsSound devices }
+    ensures { EndsThreads printed paced.now.args devices result.devices result.status }
+{
+    let Some(every) = paced.pace else {
+        return run_scripts(threads, alloc, &paced.args, printed, devices);
+    };
+    let gate = Pace::new(threads, every.max(1), paced.args.meshers);
+    let status = printed_run(threads, alloc, &gate, &mut devices, &paced.args, printed);
+    Ended { status, devices }
+}
+
+/// Runs a job's scripts in threads that no gate stops, and prints what is asked for.
 fn run_scripts<R: Threads + Wait + Sync, I: Source, O: Sink, E: Sink>(
     threads: &R,
     alloc: Global,
     args: &ThreadsArgs,
+    printed: Printed,
     mut devices: Devices<I, O, E>,
 ) -> Ended<I, O, E>
     requires { IsSound devices }
-    ensures { EndsThreads Printed.Answers devices result.devices result.status }
+    ensures { EndsThreads printed args.now devices result.devices result.status }
 {
-    let status = threads_run(
-        threads,
-        alloc,
-        &mut devices.input,
-        &mut devices.output,
-        &mut devices.errors,
-        args,
-    );
-    Ended { status, devices }
-}
-
-/// Runs a job's scripts in threads, and prints the recorded history of all threads.
-fn record_scripts<R: Threads + Wait + Sync, I: Source, O: Sink, E: Sink>(
-    threads: &R,
-    alloc: Global,
-    args: &ThreadsArgs,
-    mut devices: Devices<I, O, E>,
-) -> Ended<I, O, E>
-    requires { IsSound devices }
-    ensures { EndsThreads Printed.History devices result.devices result.status }
-{
-    let status = threads_history_run(threads, alloc, &mut devices, args);
+    let status = printed_run(threads, alloc, &NoGate, &mut devices, args, printed);
     Ended { status, devices }
 }
 

@@ -6,13 +6,14 @@ ghost use Rattle.model_jobs.specs.Texts.{ended};
 ghost use Rattle.run_program.specs.Runs.{Ends, HasTold, IsSound, error_text};
 ghost use Rattle.run_program.specs.Seen.{seen};
 ghost use Rattle.run_program.specs.Status.{status_of_error};
+ghost use Rattle.mesh_text.specs.Echo.{HasEchoed, HasStoppedEcho};
 ghost use Rattle.mesh_text.specs.Recorded.{HasReplayedRecorded, HasStoppedRecorded};
 ghost use Rattle.mesh_text.specs.Replay.{HasReplayed, HasStopped};
 ghost use Rattle.text_devices.specs.declared.faults.ReplayError.{ReplayError};
 
 use crate::fault_line::line_of;
 use crate::{Devices, Stop};
-use mesh_text::{replay, replay_recorded};
+use mesh_text::{replay, replay_echoed, replay_recorded};
 use run_command_line::status::{DONE, FAILED, FAULTY};
 use std::alloc::Global;
 use text_devices::{ReplayError, Sink, Source, write_all};
@@ -52,6 +53,21 @@ pub fn replay_history_run<I: Source, O: Sink, E: Sink>(
     ensures { Ends HasReplayedRecorded HasStoppedRecorded devices.old devices.new result }
 {
     let outcome = replay_recorded(alloc, &mut devices.input, &mut devices.output);
+    finished(&mut devices.errors, outcome)
+}
+
+/// Replays the job in the input, and writes each line of its plan with its answer (`replay_echoed`). If the run stops
+/// with an error, writes the error's line to `errors`. Returns the exit status.
+///
+/// The exit status and the line in `errors` are those of `replay_run`.
+pub fn replay_echo_run<I: Source, O: Sink, E: Sink>(
+    alloc: Global,
+    devices: &mut Devices<I, O, E>,
+) -> u8
+    requires { IsSound devices.old }
+    ensures { Ends HasEchoed HasStoppedEcho devices.old devices.new result }
+{
+    let outcome = replay_echoed(alloc, &mut devices.input, &mut devices.output);
     finished(&mut devices.errors, outcome)
 }
 

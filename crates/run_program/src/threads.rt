@@ -17,10 +17,11 @@ use crate::printed::Printed;
 use crate::runs::{status_of, tell};
 use crate::shuffle_words::words;
 use crate::{Devices, ThreadsArgs, ThreadsError};
-use mesh_mutator::{Book, Entry};
-use mesh_shared::{Ended, Limits, MeshPlan, NoGate, Ran, run_within};
+use mesh_mutator::Book;
+use mesh_shared::{Gate, Limits, MeshPlan, NoGate, Ran, run_within};
 use mesh_text::{Command, Commands, Job, Scripts, history_lines, read_job, recorded_history};
 use run_command_line::status::{DONE, FAILED, FAULTY};
+use run_report::add_run_report;
 use std::alloc::{AllocError, Global};
 use std::sync::Wait;
 use std::thread::Threads;
@@ -54,12 +55,12 @@ pub fn threads_run<R: Threads + Wait + Sync, I: Source, O: Sink, E: Sink>(
 ) -> u8
     requires input { I.has_failed input.old ≡ false }
     requires output { O.has_failed output.old ≡ false }
-    ensures { EndsThreads Printed.Answers
+    ensures { EndsThreads Printed.Answers args.now
         (seen (I.remaining input.old) (O.written output.old) (E.written errors.old) (I.has_failed input.old)
         (O.has_failed output.old) (E.has_failed errors.old))
         (seen (I.remaining input.new) (O.written output.new) (E.written errors.new) (I.has_failed input.new) (O.has_failed output.new) (E.has_failed errors.new)) result }
 {
-    match run_file(rt, alloc, input, output, args, Printed::Answers) {
+    match run_file(rt, alloc, &NoGate, input, output, args, Printed::Answers) {
         Ok(()) => DONE,
         Err(error) => threads_stopped(errors, error),
     }
@@ -74,15 +75,32 @@ pub fn threads_history_run<R: Threads + Wait + Sync, I: Source, O: Sink, E: Sink
     args: &ThreadsArgs,
 ) -> u8
     requires { IsSound devices.old }
-    ensures { EndsThreads Printed.History devices.old devices.new result }
+    ensures { EndsThreads Printed.History args.now devices.old devices.new result }
+{
+    printed_run(rt, alloc, &NoGate, devices, args, Printed::History)
+}
+
+/// Does the same as `threads_run`, but writes what is asked for to the output, and the threads call `gate` at certain
+/// points.
+pub(crate) fn printed_run<R: Threads + Wait + Sync, G: Gate + Sync, I: Source, O: Sink, E: Sink>(
+    rt: &R,
+    alloc: Global,
+    gate: &G,
+    devices: &mut Devices<I, O, E>,
+    args: &ThreadsArgs,
+    printed: Printed,
+) -> u8
+    requires { IsSound devices.old }
+    ensures { EndsThreads printed args.now devices.old devices.new result }
 {
     let outcome = run_file(
         rt,
         alloc,
+        gate,
         &mut devices.input,
         &mut devices.output,
         args,
-        Printed::History,
+        printed,
     );
     match outcome {
         Ok(()) => DONE,
@@ -101,10 +119,11 @@ pub fn threads_stopped<E: Sink>(errors: &mut E, error: ThreadsError) -> u8
     threads_status_of(error)
 }
 
-/// Runs the scripts of the job in the input, and writes the text of their history.
-fn run_file<R: Threads + Wait + Sync, I: Source, O: Sink>(
+/// Runs the scripts of the job in the input, and writes the text of the run.
+fn run_file<R: Threads + Wait + Sync, G: Gate + Sync, I: Source, O: Sink>(
     rt: &R,
     alloc: Global,
+    gate: &G,
     input: &mut I,
     output: &mut O,
     args: &ThreadsArgs,
@@ -114,71 +133,65 @@ fn run_file<R: Threads + Wait + Sync, I: Source, O: Sink>(
     requires output { O.has_failed output.old ≡ false }
     ensures ok { OnOk result ((I.has_failed input.new ≡ false) × (O.has_failed output.new ≡ false)) }
     ensures written { OnOk result
-        (HasWrittenRun printed (I.remaining input.old) (I.remaining input.new) (O.written output.old)
+        (HasWrittenRun printed args.now (I.remaining input.old) (I.remaining input.new) (O.written output.old)
         (O.written output.new)) }
     ensures stopped { IfErr result
-        (HasStoppedRun printed (I.remaining input.old) (I.remaining input.new) (O.written output.old)
+        (HasStoppedRun printed args.now (I.remaining input.old) (I.remaining input.new) (O.written output.old)
         (O.written output.new)) }
     ensures failed { IfErr result (HasFailedRun (I.has_failed input.new) (O.has_failed output.new)) }
 {
     let job = read_job(alloc, input)?;
-    let text = run_job(rt, alloc, &job, args, printed)?;
+    let text = run_job(rt, alloc, gate, &job, args, printed)?;
     write_text(output, text.as_slice())
 }
 
-/// Runs a job's scripts, and returns the text of their history. The error is TooShort, and nothing is run, if the job's
+/// Runs a job's scripts, and returns the text of the run. The error is TooShort, and nothing is run, if the job's
 /// history has no room for all commands. Other errors are those of the run.
-fn run_job<R: Threads + Wait + Sync>(
+fn run_job<R: Threads + Wait + Sync, G: Gate + Sync>(
     rt: &R,
     alloc: Global,
+    gate: &G,
     job: &Job,
     args: &ThreadsArgs,
     printed: Printed,
 ) -> Result<Vec<u8>, ThreadsError>
-    ensures text { IfOk result (λ text. IsTextOfRun printed job.now.scripts text.items) }
+    ensures text { IfOk result (λ text. IsTextOfRun printed args.now job.now.scripts text.items) }
     ensures room { OnOk result (HasRoom job.now) }
     ensures none { IfErr result (IsNoRun job.now) }
 {
     if !has_room(&job.scripts, job.history) {
         return Err(ThreadsError::TooShort);
     }
-    let ran = run_scripts(rt, alloc, job, args)?;
-    let ended = ended_of(ran, job, args);
+    let ran = run_scripts(rt, alloc, gate, job, args)?;
     let workers = job.scripts.count() as u32;
-    let text = text_of(alloc, printed, workers, ended.history.as_slice())?;
+    let text = text_of(alloc, printed, workers, &ran)?;
     Ok(text)
 }
 
-/// Returns the text of a history: the answers of each of this number of workers, or the recorded history.
-fn text_of(
-    alloc: Global,
-    printed: Printed,
-    workers: u32,
-    history: &[Entry],
-) -> Result<Vec<u8>, AllocError>
-    requires { All (λ entry. entry.worker < workers) history.now }
-    ensures { IfOk result (λ text. text.items ≡ text_of_run printed workers history.now) }
+/// Returns the text of a run with this number of workers: each worker's answers, the recorded history, or the answers
+/// and what the threads did.
+fn text_of(alloc: Global, printed: Printed, workers: u32, ran: &Ran) -> Result<Vec<u8>, AllocError>
+    requires { All (λ entry. entry.worker < workers) ran.now.ended.history.items }
+    ensures { IfOk result (λ text. text.items ≡ text_of_run printed workers ran.now) }
 {
+    let history = ran.ended.history.as_slice();
     match printed {
         Printed::Answers => history_lines(alloc, workers, history),
         Printed::History => recorded_history(alloc, history),
+        Printed::Report => {
+            let mut text = history_lines(alloc, workers, history)?;
+            add_run_report(&mut text, ran)?;
+            Ok(text)
+        }
     }
-}
-
-/// Returns the heap, the root cells and the history of a run. States by its requirement that the run was one of the
-/// job's scripts with the meshers and the rounds of the arguments.
-fn ended_of(ran: Ran, job: &Job, args: &ThreadsArgs) -> Ended
-    requires { IsRunOf job.now.scripts args.now ran }
-    ensures { result ≡ ran.ended }
-{
-    ran.ended
 }
 
 /// Runs a job's scripts on a fresh book, while meshers do what the arguments ask for. Also returns what each mesher
 /// did.
-fn run_scripts<R: Threads + Wait + Sync>(
+fn run_scripts<R: Threads + Wait + Sync, G: Gate + Sync>(
     rt: &R,
     alloc: Global,
+    gate: &G,
     job: &Job,
     args: &ThreadsArgs,
 ) -> Result<Ran, ThreadsError>
@@ -188,14 +201,15 @@ fn run_scripts<R: Threads + Wait + Sync>(
     let plan = plan_of(alloc, args)?;
     let commands = commands_of(alloc, &job.scripts)?;
     let scripts = slices_of(alloc, commands.as_slice())?;
-    run_book(rt, alloc, job, args, &plan, scripts.as_slice())
+    run_book(rt, alloc, gate, job, args, &plan, scripts.as_slice())
 }
 
 /// Runs a job's scripts on a fresh book, while meshers follow the plan of the arguments. The book is opened last, so
 /// that no other preparation can fail while the book is open.
-fn run_book<R: Threads + Wait + Sync>(
+fn run_book<R: Threads + Wait + Sync, G: Gate + Sync>(
     rt: &R,
     alloc: Global,
+    gate: &G,
     job: &Job,
     args: &ThreadsArgs,
     plan: &MeshPlan,
@@ -210,7 +224,7 @@ fn run_book<R: Threads + Wait + Sync>(
     ensures none { HasRoom job.now → IfErr result (IsNoRun job.now) }
 {
     let book = book_of(alloc, job)?;
-    let ran = run_within(rt, alloc, book, scripts, plan, Limits::none(), &NoGate)?;
+    let ran = run_within(rt, alloc, book, scripts, plan, Limits::none(), gate)?;
     Ok(ran)
 }
 

@@ -1,4 +1,4 @@
-"""Runs whose standard output is a pipe that its reader has closed."""
+"""Runs whose standard output is a pipe that its reader has closed, and a path that is too long."""
 
 import os
 import subprocess
@@ -7,6 +7,7 @@ from cli.suite import NOTHING, NULL, Run, line
 
 JOB = "jobs/examples/mesh.job"
 HISTORY = "histories/each_command.history"
+TOO_LONG = "n" * 5000
 QUIET = (
     ("explore", JOB, "--mesh", "1:0"),
     ("draw", JOB),
@@ -21,6 +22,8 @@ def cases(suite):
         suite.compare(f"reasons: a closed pipe, {' '.join(words)}", into_closed_pipe(suite, words), 1)
     replay = into_closed_pipe(suite, ("replay", JOB))
     suite.compare("reasons: a closed pipe, replay", replay, 1, NOTHING, line("write fault"))
+    reason = line(f"read fault\n{TOO_LONG[:4096]}: File name too long")
+    suite.check("reasons: a path that is too long", 1, NOTHING, reason, "check", TOO_LONG)
 
 
 def into_closed_pipe(suite, words):
