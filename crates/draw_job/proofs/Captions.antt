@@ -1,16 +1,15 @@
 -- The words of a plan's lines.
-use Rattle.std.proofs.Common.{◌≡◌, ℕ, zero, suc, ◌<◌, List, [], ◌∷◌, ◌++◌, Option, Some, drop, length, map, slice_get, slice_index, slice_index_or, ap, refl, subst, sym, ◌∙◌}
+use Rattle.std.proofs.Common.{◌≡◌, ℕ, zero, suc, ◌<◌, List, [], ◌∷◌, Some, drop, length, map, slice_get, slice_index_or, ap, refl, subst, sym, ◌∙◌}
 use Rattle.std.proofs.lemmas.List.{length-map}
 use Rattle.std.proofs.lemmas.Option.{slice_get-map, slice_get_read}
 use Rattle.std.specs.Option.{option_map}
-use Rattle.model_jobs.specs.Jobs.{Job, Line, State}
+use Rattle.model_jobs.specs.Jobs.{Line, State}
 use Rattle.model_jobs.specs.Texts.{line_text}
 use Rattle.model_words.specs.declared.commands.Command.{Command}
-use Rattle.draw_job.specs.Captions.{IsCaption, attempt_text, caption_text, next_command}
+use Rattle.draw_job.specs.Captions.{caption_text, next_command}
 use Rattle.text_job.specs.Plan.{line_of}
 use Rattle.text_job.specs.declared.plan.PlanLine.{PlanLine}
 use Rattle.text_job.specs.declared.plan.PlanLine.TheVariants.{Run, Pair, Begin, Step, Cancel, StepClass, CancelClass, Whole, Sweep, Report}
-use Rattle.mesh_text.specs.Turns.{state_up_to}
 
 -- what stands at a place is the first of what is left from there on
 first_of_rest : {A : Type 0} (xs : List A) (n : ℕ) → slice_get xs n ≡ slice_get (drop n xs) 0

@@ -4,3 +4,4 @@ pub mod Frames
 pub mod Notes
 pub mod Painters
 pub mod Points
+pub mod Texts

@@ -1,4 +1,4 @@
-//! The picture of a job: what its heap looks like after each line of its plan, as one SVG file.
+//! What the heap of a job looks like after each line of its plan: as one SVG file, or as text.
 //!
 //! An `AllocError` means that an allocation failed.
 #![tactic(auto)]
@@ -7,7 +7,9 @@ mod painters;
 mod points;
 mod run;
 mod shown;
+mod texts;
 
 pub use draw_picture::{Counts, Frame, Home, Mapping, Member, Object, RunningMesh};
 pub use run::{DrawOptions, draw};
 pub use shown::frame_of;
+pub use texts::describe;

@@ -5,7 +5,7 @@ ghost use Rattle.text_devices.specs.Transfer.{AppendsBeginning};
 ghost use Rattle.draw_job.specs.Captions.{IsCaption, attempt_text};
 ghost use Rattle.draw_job.specs.Draws.{HasWritten};
 ghost use Rattle.mesh_text.specs.Turns.{StandsBehind};
-ghost use Rattle.draw_job.specs.Points.{IsPoint, next_shown};
+ghost use Rattle.draw_job.specs.Points.{IsPoint, IsPointFrom, next_shown};
 
 use crate::shown::frame_of;
 use draw_picture::{Frame, Line, Text};
@@ -17,8 +17,8 @@ use text_job::{Command, Job, PlanLine};
 /// A bound on the number of lines of a plan: a job file has at most 1 MiB.
 pub(crate) const MAX_LINES: usize = 1_048_576;
 
-/// After each point, the buffer of a picture is written if it has at least this number of bytes.
-const CHUNK_BYTES: usize = 8192;
+/// After each point, the buffer of a picture or of a text is written if it has at least this number of bytes.
+pub(crate) const CHUNK_BYTES: usize = 8192;
 
 /// The point after a line of a job's plan: the line with its answer as a replay prints it, and the heap after the line.
 #[derive(Clone, Copy)]
@@ -26,6 +26,14 @@ pub(crate) struct Point<'a> {
     pub job: &'a Job,
     pub line: &'a Line<'a>,
     pub frame: &'a Frame,
+}
+
+/// A line of a plan that was played: its caption, its answer as a replay prints it, and the heap after the line.
+#[derive(Drop)]
+pub(crate) struct PlayedLine {
+    pub words: Vec<u8>,
+    pub answer: Vec<u8>,
+    pub frame: Frame,
 }
 
 /// A consumer of the points of a plan.
@@ -80,7 +88,7 @@ pub(crate) fn show_points<P: Painter, O: Sink>(
 }
 
 /// The number of lines of a job's plan whose line number is at most `to`.
-fn lines_up_to(job: &Job, to: usize) -> usize
+pub(crate) fn lines_up_to(job: &Job, to: usize) -> usize
     ensures { result ≡ min to (length job.now.plan) }
 {
     to.min(job.plan.lines().len())
@@ -104,26 +112,52 @@ fn show_point<P: Painter>(
     ensures stands { OnOk result (StandsBehind job.now (place + 1) turns.new) }
     ensures next { OnOk result (P.next painter.new ≡ next_shown from (place + 1)) }
 {
+    let Some(played) = play_line(alloc, job, turns, place, from)? else {
+        return Ok(());
+    };
+    let line = Line {
+        number: place as u32 + 1,
+        words: played.words.as_slice(),
+        answer: played.answer.as_slice(),
+    };
+    let point = Point {
+        job,
+        line: &line,
+        frame: &played.frame,
+    };
+    painter.point(&point, text)
+}
+
+/// Plays the line of a plan at a place, counted from 0. Returns the point after this line, or `None` if the line comes
+/// before line `from`.
+pub(crate) fn play_line(
+    alloc: Global,
+    job: &Job,
+    turns: &mut Turns,
+    place: usize,
+    from: usize,
+) -> Result<Option<PlayedLine>, AllocError>
+    requires within { place < length job.now.plan }
+    requires few { place < 4294967295 }
+    requires stands { StandsBehind job.now place turns.old }
+    ensures stands { OnOk result (StandsBehind job.now (place + 1) turns.new) }
+    ensures point { IfOk result (IsPointFrom job.now from (place + 1)) }
+{
     let mut answer = Vec::new(alloc);
     if place + 1 < from {
-        return turns.play(alloc, job, place, &mut answer);
+        turns.play(alloc, job, place, &mut answer)?;
+        return Ok(None);
     }
     let words = caption_at(alloc, job, turns, place)?;
     turns.play(alloc, job, place, &mut answer)?;
     let heap = turns.heap();
     heap.always();
     let frame = frame_of(alloc, heap)?;
-    let line = Line {
-        number: place as u32 + 1,
-        words: words.as_slice(),
-        answer: answer.as_slice(),
-    };
-    let point = Point {
-        job,
-        line: &line,
-        frame: &frame,
-    };
-    painter.point(&point, text)
+    Ok(Some(PlayedLine {
+        words,
+        answer,
+        frame,
+    }))
 }
 
 /// Returns the caption of the line of a plan at a place, counted from 0. The caption of a worker's line includes the

@@ -74,7 +74,7 @@ pub struct Frame {
     pub objects: Vec<Object>,
     /// The physical pages of the groups, with groups ascending by number. Each group's pages are in the group's order.
     pub homes: Vec<Home>,
-    /// The running meshes, ascending by class.
+    /// The running meshes, in the order in which they began.
     pub meshes: Vec<RunningMesh>,
     /// The page counts of the heap.
     pub counts: Counts,

@@ -22,6 +22,11 @@ impl Text {
         self.bytes
     }
 
+    /// Returns the text, and empties it.
+    pub fn take(&mut self) -> Vec<u8> {
+        std::mem::take(&mut self.bytes)
+    }
+
     pub fn add(&mut self, words: &str) {
         self.add_bytes(words.as_bytes());
     }

@@ -54,9 +54,9 @@ pub struct Reference {
 
 /// The object in a slot. The slot is free if the length is 0.
 #[derive(Clone, Copy)]
-struct Record {
-    serial: u32,
-    len: u32,
+pub struct Record {
+    pub serial: u32,
+    pub len: u32,
 }
 
 /// A span: consecutive virtual pages that are cut into slots.
@@ -65,7 +65,7 @@ pub struct Span {
     /// The number of the first virtual page.
     pub first: u32,
     group: u16,
-    records: Box<[Record]>,
+    pub records: Box<[Record]>,
 }
 
 /// A group: the spans that are mapped to the same physical pages.
@@ -111,6 +111,8 @@ pub struct Heap {
     /// For each class the groups in no mesh with a free slot and an occupied one.
     pub partial: [NumberSet; CLASSES],
     pub meshes: [Option<Mesh>; CLASSES],
+    /// The number of meshes that have begun.
+    pub begun: u32,
     next_page: u32,
     next_serial: u32,
     object_count: u32,
@@ -145,6 +147,7 @@ impl Heap {
             open: std::array::from_fn(|_| NumberSet::new()),
             partial: std::array::from_fn(|_| NumberSet::new()),
             meshes: [const { None }; CLASSES],
+            begun: 0,
             next_page: 1,
             next_serial: 0,
             object_count: 0,

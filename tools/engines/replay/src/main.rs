@@ -1,6 +1,7 @@
 //! A plain meshing heap without proofs, for the times of `meshrun replay` and `meshrun threads`.
 //!
 //!     plain replay [--echo] FILE
+//!     plain draw --text [--from N] [--to N] FILE
 //!     plain threads FILE ROUNDS PROBE SEED
 //!
 //! FILE is a job file of either version. `replay` prints the answer to each line of the plan. With `--echo` it prints
@@ -8,13 +9,17 @@
 //! copied from FILE. `threads` runs each script on a thread of its own, while another thread searches and meshes ROUNDS
 //! times, with at most PROBE rounds of tries in a search. It prints what `meshrun threads` prints.
 //!
+//! `draw` prints the lines of the plan with their answers, and after each line the heap as rows of text (`frames.rs`).
+//! `--from` and `--to` name the first and the last printed line, counted from 1; by default all lines are printed.
+//!
 //! The status is 1 if FILE can't be read or the output fails, and 2 if the arguments or the text have a fault.
-//! tools/bench/replay.sh and tools/bench/lock.sh build and run it, and tools/gen/echo_golden.sh writes golden files with
-//! it.
+//! tools/bench/replay.sh and tools/bench/lock.sh build and run it. tools/gen/echo_golden.sh and
+//! tools/gen/frames_golden.sh write golden files with it.
 mod answers;
 mod book;
 mod class;
 mod echo;
+mod frames;
 mod heap;
 mod job;
 mod mesh;
@@ -24,10 +29,15 @@ mod replay;
 mod search;
 mod threads;
 
+use echo::Echo;
 use std::fs::File;
 use std::io::{self, Read, Write};
+use std::ops::RangeInclusive;
 use std::process::ExitCode;
 use threads::Meshing;
+
+/// The greatest number of a line of the plan.
+const MAX_LINES: usize = 1 << 20;
 
 /// What ends the program without its output.
 enum Failure {
@@ -46,6 +56,8 @@ impl From<io::Error> for Failure {
 enum Way {
     Replay,
     Echo,
+    /// The numbers of the lines of the plan, counted from 1.
+    Frames(RangeInclusive<usize>),
     Threads(Meshing),
 }
 
@@ -53,7 +65,10 @@ fn main() -> ExitCode {
     match run() {
         Ok(()) => ExitCode::SUCCESS,
         Err(Failure::Usage) => {
-            eprintln!("usage: plain replay [--echo] FILE, or plain threads FILE ROUNDS PROBE SEED");
+            eprintln!(
+                "usage: plain replay [--echo] FILE, plain draw --text [--from N] [--to N] FILE, or"
+            );
+            eprintln!("       plain threads FILE ROUNDS PROBE SEED");
             ExitCode::from(2)
         }
         Err(Failure::Text(fault)) => {
@@ -72,12 +87,13 @@ fn run() -> Result<(), Failure> {
     let (way, path) = asked(&words).ok_or(Failure::Usage)?;
     let text = read_text(path)?;
     let job = reader::read(&text).map_err(Failure::Text)?;
-    let answers = match way {
-        Way::Replay => replay::replayed(&job),
-        Way::Echo => replay::echoed(&job, &echo::Echo::of(&text)),
-        Way::Threads(meshing) => threads::run(&job, &meshing),
-    };
-    io::stdout().write_all(&answers)?;
+    let mut out = io::stdout();
+    match way {
+        Way::Replay => out.write_all(&replay::replayed(&job))?,
+        Way::Echo => out.write_all(&replay::echoed(&job, &Echo::of(&text)))?,
+        Way::Frames(shown) => replay::write_frames(&job, &Echo::of(&text), &shown, &mut out)?,
+        Way::Threads(meshing) => out.write_all(&threads::run(&job, &meshing))?,
+    }
     Ok(())
 }
 
@@ -87,6 +103,7 @@ fn asked(words: &[String]) -> Option<(Way, &str)> {
     match words[..] {
         ["replay", path] => Some((Way::Replay, path)),
         ["replay", "--echo", path] => Some((Way::Echo, path)),
+        ["draw", "--text", ref options @ .., path] => Some((Way::Frames(shown(options)?), path)),
         ["threads", path, rounds, probe, seed] => {
             let meshing = Meshing {
                 rounds: rounds.parse().ok()?,
@@ -97,6 +114,29 @@ fn asked(words: &[String]) -> Option<(Way, &str)> {
         }
         _ => None,
     }
+}
+
+/// Reads `--from N` and `--to N`, each of which may be missing. Returns the numbers of the lines to print.
+fn shown(options: &[&str]) -> Option<RangeInclusive<usize>> {
+    let (mut from, mut to) = (None, None);
+    for option in options.chunks(2) {
+        let [name, number] = option else {
+            return None;
+        };
+        let line = match *name {
+            "--from" => &mut from,
+            "--to" => &mut to,
+            _ => return None,
+        };
+        let number = number
+            .parse()
+            .ok()
+            .filter(|n| (1..=MAX_LINES).contains(n))?;
+        if line.replace(number).is_some() {
+            return None;
+        }
+    }
+    Some(from.unwrap_or(1)..=to.unwrap_or(MAX_LINES))
 }
 
 /// Reads a file, at most to one byte past the greatest length of a job file.

@@ -5,16 +5,18 @@ use crate::number_set::bits;
 
 /// A running mesh.
 pub struct Mesh {
-    source: u16,
-    destination: u16,
-    progress: Progress,
+    pub source: u16,
+    pub destination: u16,
+    pub progress: Progress,
     /// The number of steps that are left.
-    left: u32,
+    pub left: u32,
+    /// The number of meshes that began before this one.
+    pub place: u32,
 }
 
 /// The steps that a mesh has made: from its beginning, or after it was cancelled.
 #[derive(Clone, Copy)]
-enum Progress {
+pub enum Progress {
     Made(u32),
     Unwinding(u32),
 }
@@ -105,7 +107,9 @@ impl Heap {
             destination,
             progress: Progress::Made(0),
             left,
+            place: self.begun,
         });
+        self.begun += 1;
         for group in [source, destination] {
             self.groups[usize::from(group)].is_in_mesh = true;
             self.file_group(group);
@@ -203,6 +207,20 @@ impl Heap {
             mesh.left = left;
         }
         Ok(left)
+    }
+
+    /// The number of physical pages of a group that a running mesh has freed.
+    pub fn released(&self, group: u16) -> u32 {
+        let class = usize::from(self.groups[usize::from(group)].class);
+        match &self.meshes[class] {
+            Some(mesh) if mesh.source == group => match mesh.progress {
+                Progress::Made(made) => {
+                    made.saturating_sub(3 * self.mapped_to(group) + SLOTS[class])
+                }
+                Progress::Unwinding(_) => 0,
+            },
+            _ => 0,
+        }
     }
 
     /// Makes all steps of a mesh at once. Returns the number of physical pages that are freed.

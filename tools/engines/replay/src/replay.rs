@@ -2,8 +2,11 @@
 use crate::answers::Text;
 use crate::book::{Attempt, Book};
 use crate::echo::Echo;
+use crate::frames;
 use crate::job::{Job, Line};
 use crate::search::split_search;
+use std::io::{self, Write};
+use std::ops::RangeInclusive;
 
 /// The answers to the lines of a job's plan.
 pub fn replayed(job: &Job) -> Vec<u8> {
@@ -21,17 +24,44 @@ pub fn echoed(job: &Job, echo: &Echo) -> Vec<u8> {
     for (place, line) in job.plan.iter().enumerate() {
         player.text.add_bytes(echo.line(place));
         if let Line::Run(worker) = *line {
-            let worker = usize::from(worker);
-            if let Some(command) = echo.command(worker, player.next[worker]) {
-                player.text.add(" ");
-                player.text.add_bytes(command);
-            }
+            player.add_command(" ", worker, echo);
         }
         player.text.add(" -> ");
         player.play(line);
         player.text.end_line();
     }
     player.text.into_bytes()
+}
+
+/// Writes each line of a job's plan whose number, counted from 1, is in a range. The line is followed by its answer and
+/// by the heap after it.
+pub fn write_frames(
+    job: &Job,
+    echo: &Echo,
+    shown: &RangeInclusive<usize>,
+    out: &mut impl Write,
+) -> io::Result<()> {
+    let mut player = Player::new(job);
+    for (place, line) in job.plan.iter().enumerate().take(*shown.end()) {
+        let number = place + 1;
+        player.text.add(&format!("line {number}: "));
+        if let Line::Run(worker) = *line {
+            player.text.add(&format!("worker {worker}"));
+            player.add_command(": ", worker, echo);
+        } else {
+            player.text.add_bytes(echo.line(place));
+        }
+        player.text.add(" -> ");
+        player.play(line);
+        player.text.end_line();
+        if shown.contains(&number) {
+            frames::add_frame(&mut player.text, &player.book.heap);
+            out.write_all(&player.text.take())?;
+        } else {
+            player.text.take();
+        }
+    }
+    Ok(())
 }
 
 struct Player<'a> {
@@ -49,6 +79,15 @@ impl Player<'_> {
             book: Book::new(job.pages, job.history),
             next: vec![0; job.scripts.len()],
             text: Text::new(),
+        }
+    }
+
+    /// Adds the command that a worker attempts next, after these words. Adds nothing if its script is over.
+    fn add_command(&mut self, words: &str, worker: u8, echo: &Echo) {
+        let worker = usize::from(worker);
+        if let Some(command) = echo.command(worker, self.next[worker]) {
+            self.text.add(words);
+            self.text.add_bytes(command);
         }
     }
 

@@ -1,5 +1,5 @@
-use Rattle.std.proofs.Common.{◌≡◌, ◌++◌, List, [], ℕ, map, slice_index, slice_index_or, ap, refl, sym, ◌∙◌}
-use Rattle.model_jobs.specs.Jobs.{Job, Line}
+use Rattle.std.proofs.Common.{◌≡◌, ◌++◌, List, [], ℕ, slice_index, slice_index_or, ap, refl, sym, ◌∙◌}
+use Rattle.model_jobs.specs.Jobs.{Job}
 use Rattle.model_jobs.specs.Texts.{line_text}
 use Rattle.draw_job.specs.Captions.{next_command}
 use Rattle.draw_job.proofs.Captions.{command_is_next, line_is_planned, other_caption}

@@ -1,4 +1,4 @@
-use Rattle.std.proofs.Common.{◌≤◌, ◌+◌, arith, rules}
+use Rattle.std.proofs.Common.{rules}
 use Rattle.draw_job.proofs.Written.{none_written, written_on}
 use Rattle.draw_job.proofs.points.show_points.Goals as goal
 
