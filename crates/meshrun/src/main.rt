@@ -225,6 +225,7 @@ fn path_of<'a>(args: &Args<'a>) -> Option<&'a str>
         | Args::ThreadsHistory(path, _)
         | Args::ThreadsReport(path, _)
         | Args::Draw(path, _)
+        | Args::DrawText(path, _)
         | Args::Explore(path, _)
         | Args::Check(path, _)
         | Args::Savings(path, _) => path,

@@ -16,7 +16,7 @@ use Rattle.run_command_line.specs.Meshes.{pairs_of}
 use Rattle.run_command_line.specs.Conditions.{ConditionTexts, conditions_of, has_condition, no_condition}
 use Rattle.run_command_line.specs.declared.check_args.CheckArgs.{CheckArgs}
 use Rattle.run_command_line.specs.declared.command_line.Args.{Args}
-use Rattle.run_command_line.specs.declared.command_line.Args.TheVariants.{Check, Draw, Explore, Live, Replay, ReplayEcho, ReplayHistory, Savings, Threads, ThreadsHistory, ThreadsPaced, ThreadsReport}
+use Rattle.run_command_line.specs.declared.command_line.Args.TheVariants.{Check, Draw, DrawText, Explore, Live, Replay, ReplayEcho, ReplayHistory, Savings, Threads, ThreadsHistory, ThreadsPaced, ThreadsReport}
 use Rattle.run_command_line.specs.declared.requested.Request.{Request}
 use Rattle.run_command_line.specs.declared.stop.Stop.{Stop}
 use Rattle.run_command_line.specs.declared.draw_args.DrawArgs.{DrawArgs}
@@ -77,11 +77,11 @@ threads_app = with_rule (with_rule (with_rule (with_rule (with_rule (with_rule (
     (required_number (codes "seed") 0 18446744073709551615)) (number_or (codes "meshers") 1 10 (codes "1")))
     (number_rule (codes "pace") 1 65536)) (flag_rule (codes "history"))) (flag_rule (codes "report"))) (flag_rule (codes "explain"))
 
--- `draw FILE [--from N] [--to N] [--columns N]`
+-- `draw FILE [--from N] [--to N] [--columns N] [--text]`
 abbrev pub draw_app : App
-draw_app = with_rule (with_rule (with_rule (with_rule (new_app (codes "draw")) file_rule)
+draw_app = with_rule (with_rule (with_rule (with_rule (with_rule (new_app (codes "draw")) file_rule)
     (number_or (codes "from") 1 1048576 (codes "1"))) (number_or (codes "to") 1 1048576 (codes "1048576")))
-    (number_or (codes "columns") 0 64 (codes "0"))
+    (number_or (codes "columns") 0 64 (codes "0"))) (flag_rule (codes "text"))
 
 -- `live [--pages P] [--history H] [--workers N]`
 abbrev pub live_app : App
@@ -202,7 +202,7 @@ pub record Compared : Type 0 where
 --   with the commands that are attempted at them and their answers
 -- - `threads_of`: a run of the scripts by threads; `threads_history_of`: the recorded history of the run;
 --   `threads_report_of`: the run, with a report on its threads and its heap
--- - `draw_of`: a picture of part of the plan
+-- - `draw_of`: a picture of part of the plan; `draw_text_of`: the heap after each line of this part, as text
 -- - `explore_of`: an exploration of the commands that the plan leaves
 -- - `live_of`: a session of these sizes
 -- - `check_of`: a judgement of the history; `savings_of`: what meshing saves for the history
@@ -214,6 +214,7 @@ pub data Asked : Type 0 where
   threads_history_of : Text → Numbers → Asked
   threads_report_of : Text → Numbers → Asked
   draw_of : Text → Shown → Asked
+  draw_text_of : Text → Shown → Asked
   explore_of : Text → Explored → Asked
   live_of : SessionSizes → Asked
   check_of : Text → Checked → Asked
@@ -281,11 +282,23 @@ threads_in file rows =
     option_and_then (λ numbers. option_and_then (λ recorded. option_and_then (threads_by file numbers recorded) (is_reported_in rows)) (is_recorded_in rows))
     (numbers_in rows)
 
+-- the part of a plan, if its first line isn't behind its last
+abbrev pub in_plan_order : Shown → Option Shown
+in_plan_order shown = if nat_le shown.from shown.to then Some shown else None
+
 -- the part of a plan in the matches of `draw`
 abbrev pub shown_in : List Row → Option Shown
 shown_in rows =
-    option_and_then (λ from. option_and_then (λ to. option_map (λ columns. record { from = from; to = to; columns = columns })
+    option_and_then (λ from. option_and_then (λ to. option_and_then (λ columns. in_plan_order (record { from = from; to = to; columns = columns }))
     (number_in (codes "columns") 0 64 rows)) (number_in (codes "to") 1 1048576 rows)) (number_in (codes "from") 1 1048576 rows)
+
+-- what `draw` asks for: with `--text` the heap after each line as text, and otherwise a picture
+abbrev pub draw_by : Text → Shown → Bool → Asked
+draw_by file shown is_text = if is_text then draw_text_of file shown else draw_of file shown
+
+-- what `draw` asks for according to its matches
+abbrev pub draw_in : Text → List Row → Option Asked
+draw_in file rows = option_and_then (λ shown. option_map (draw_by file shown) (flag_in (codes "text") rows)) (shown_in rows)
 
 -- the group that this text names. Its number is spelt as in any option, and is at most 65535
 abbrev pub group_of : Text → Option ℕ
@@ -427,7 +440,7 @@ abbrev pub asked_of : ConditionTexts → Text → List Row → Text → Option A
 asked_of conditions name rows file =
     if bytes_eq name (codes "replay") then replay_in file rows
     else (if bytes_eq name (codes "threads") then threads_in file rows
-    else (if bytes_eq name (codes "draw") then option_map (draw_of file) (shown_in rows)
+    else (if bytes_eq name (codes "draw") then draw_in file rows
     else (if bytes_eq name (codes "explore") then option_map (explore_of file) (explored_in conditions rows)
     else (if bytes_eq name (codes "check") then option_map (check_of file) (checked_in rows)
     else (if bytes_eq name (codes "savings") then option_map (savings_of file) (compared_in rows) else None)))))
@@ -540,6 +553,7 @@ asking conditions (ThreadsPaced path args) = threads_of path.now (numbers_of arg
 asking conditions (ThreadsHistory path args) = threads_history_of path.now (numbers_of args)
 asking conditions (ThreadsReport path args) = threads_report_of path.now (numbers_of args)
 asking conditions (Draw path args) = draw_of path.now (shown_of args)
+asking conditions (DrawText path args) = draw_text_of path.now (shown_of args)
 asking conditions (Explore path args) = explore_of path.now (explored_of conditions args)
 asking conditions (Live args) = live_of (sizes_of args)
 asking conditions (Check path args) = check_of path.now (checked_of args)

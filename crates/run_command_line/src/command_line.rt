@@ -47,6 +47,9 @@ pub enum Args<'a> {
     ThreadsReport(&'a str, PacedArgs),
     /// `draw FILE ..`: draw the plan of the job file at this path, from one line to another.
     Draw(&'a str, DrawArgs),
+    /// `draw FILE .. --text`: print the heap after each line of the plan of the job file at this path, from one line to
+    /// another, as text.
+    DrawText(&'a str, DrawArgs),
     /// `live ..`: answer the lines of standard input, on a heap with these sizes.
     Live(LiveArgs),
     /// `explore FILE --mesh SRC:DST ..`: explore the commands that the plan of the job file at this path leaves, with

@@ -6,7 +6,8 @@ use crate::clap_command::{PROGRAM, subcommand_of};
 use crate::conditions::texts;
 use crate::mesh_texts::{first_unread, meshes};
 use crate::options::{
-    ALWAYS, CONDITION, EXISTS, EXPLORE, MESH, NEVER, REPLAY, SAVINGS, SHOW, Subcommand, THREADS,
+    ALWAYS, CONDITION, DRAW, EXISTS, EXPLORE, MESH, NEVER, REPLAY, SAVINGS, SHOW, Subcommand,
+    THREADS,
 };
 use crate::told::shown_answer;
 use clap::error::ErrorKind;
@@ -16,6 +17,9 @@ use std::convert::AsStr;
 
 /// The error message if both flags of `replay` that replace the answers are given.
 const REPLAYED_TWICE: &str = "--history and --echo exclude each other";
+
+/// The error message if the first line to draw is behind the last.
+const BEYOND_LAST: &str = "--from is greater than --to";
 
 /// The error message if both flags of `threads` that select what is printed are given.
 const THREADS_TWICE: &str = "--history and --report exclude each other";
@@ -56,6 +60,7 @@ pub(crate) fn unread<'a>(
     match matches.subcommand() {
         Some(("replay", _)) => replay_fault(alloc, program),
         Some(("threads", _)) => threads_fault(alloc, program),
+        Some(("draw", _)) => draw_fault(alloc, program),
         Some(("explore", matches)) => explore_fault(alloc, program, matches),
         _ => savings_fault(alloc, program),
     }
@@ -66,6 +71,13 @@ fn replay_fault(alloc: Global, program: &str) -> Result<Error, AllocError>
     ensures { IfOk result (λ error. kind_of error ≡ ErrorKind.ValueValidation) }
 {
     fault_of(alloc, program, &REPLAY, REPLAYED_TWICE)
+}
+
+/// Returns the error for options of `draw` that the program doesn't accept.
+fn draw_fault(alloc: Global, program: &str) -> Result<Error, AllocError>
+    ensures { IfOk result (λ error. kind_of error ≡ ErrorKind.ValueValidation) }
+{
+    fault_of(alloc, program, &DRAW, BEYOND_LAST)
 }
 
 /// Returns the error for options of `threads` that the program doesn't accept.

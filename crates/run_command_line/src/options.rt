@@ -9,6 +9,9 @@ pub(crate) const RECORDED: &str = "history";
 /// The name of the flag that asks for the plan's lines before their answers.
 pub(crate) const ECHO: &str = "echo";
 
+/// The name of the flag that asks for text instead of a picture.
+pub(crate) const TEXT: &str = "text";
+
 /// The name of the flag that asks for a report behind the answers.
 pub(crate) const REPORT: &str = "report";
 
@@ -407,6 +410,29 @@ pub(crate) const REPLAY: Subcommand = Subcommand {
     ],
 };
 
+/// Examples of `draw`: a picture, and the heap after one line as text.
+const DRAW_EXAMPLES: &str = "\
+Examples:
+  meshrun draw jobs/examples/mesh.job > mesh.svg
+  meshrun draw jobs/examples/mesh.job --text --from 9 --to 9";
+
+/// The subcommand `draw`.
+pub(crate) const DRAW: Subcommand = Subcommand {
+    name: "draw",
+    about: "Draw a job file's plan as an SVG picture and print it",
+    example: DRAW_EXAMPLES,
+    arguments: &[
+        Argument::File("The job file to draw; - is standard input"),
+        Argument::Default(FROM_OPTION, "1"),
+        Argument::Default(TO_OPTION, "1048576"),
+        Argument::Default(COLUMNS_OPTION, "0"),
+        Argument::Flag(
+            TEXT,
+            "Print each line of the plan with its answer and the heap after it as text instead of a picture",
+        ),
+    ],
+};
+
 /// Examples of `threads`: the answers, and the answers with a report behind them.
 const THREADS_EXAMPLES: &str = "\
 Examples:
@@ -498,17 +524,7 @@ pub(crate) const SAVINGS: Subcommand = Subcommand {
 pub(crate) const RUNS: &[Subcommand] = &[
     REPLAY,
     THREADS,
-    Subcommand {
-        name: "draw",
-        about: "Draw a job file's plan as an SVG picture and print it",
-        example: "Example: meshrun draw jobs/examples/mesh.job > mesh.svg",
-        arguments: &[
-            Argument::File("The job file to draw; - is standard input"),
-            Argument::Default(FROM_OPTION, "1"),
-            Argument::Default(TO_OPTION, "1048576"),
-            Argument::Default(COLUMNS_OPTION, "0"),
-        ],
-    },
+    DRAW,
     Subcommand {
         name: "live",
         about: "Answer the lines of standard input one by one, on a new heap",

@@ -1,10 +1,11 @@
 -- How a drawing and a live session end. A failure of the output is never reported as out of memory.
 use Rattle.std.specs.Prelude.{◌≡◌, ℕ, Bool, List, false}
 use Rattle.draw_job.specs.Draws.{HasDrawnJob, HasNotDrawn}
+use Rattle.draw_job.specs.Texts.{HasDescribed, HasNotDescribed}
 use Rattle.run_command_line.specs.declared.draw_args.DrawArgs.{DrawArgs}
 use Rattle.run_live.specs.Runs.{HasLived, HasStopped}
 use Rattle.run_live.specs.declared.sizes.Sizes.{Sizes}
-use Rattle.run_program.specs.Runs.{EndsBy, HasFailed, error_text}
+use Rattle.run_program.specs.Runs.{Ends, EndsBy, HasFailed, error_text}
 use Rattle.run_program.specs.Seen.{Seen}
 use Rattle.run_program.specs.Status.{status_of_error}
 use Rattle.text_devices.specs.declared.faults.ReplayError.{ReplayError}
@@ -22,6 +23,11 @@ HasFailedAlone input output (Text fault) = HasFailed input output (Text fault)
 abbrev pub EndsDraw : List ℕ → DrawArgs → Seen → Seen → ℕ → Type 0
 EndsDraw name args before after status =
     EndsBy status_of_error error_text HasFailedAlone (HasDrawnJob name args.from args.to) HasNotDrawn before after status
+
+-- how a run ends that writes the heap after each line of a plan. If the status is 0, a job was read, and the text of
+-- the lines that the arguments ask for was written
+abbrev pub EndsDrawText : DrawArgs → Seen → Seen → ℕ → Type 0
+EndsDrawText args before after status = Ends (HasDescribed args.from args.to) (HasNotDescribed args.from args.to) before after status
 
 -- how a live session ends
 abbrev pub EndsLive : Sizes → Seen → Seen → ℕ → Type 0

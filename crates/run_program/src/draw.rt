@@ -1,11 +1,11 @@
 //! The program's picture of a plan.
 ghost use Rattle.std.specs.Prelude.{◌≡◌};
-ghost use Rattle.run_program.specs.Draws.{EndsDraw};
+ghost use Rattle.run_program.specs.Draws.{EndsDraw, EndsDrawText};
 ghost use Rattle.run_program.specs.Runs.{IsSound};
 
 use crate::runs::finished;
 use crate::{Devices, DrawArgs};
-use draw_job::{DrawOptions, draw};
+use draw_job::{DrawOptions, describe, draw};
 use std::alloc::Global;
 use text_devices::{Sink, Source};
 
@@ -27,6 +27,30 @@ pub fn draw_run<I: Source, O: Sink, E: Sink>(
 {
     let options = options_of(title, args);
     let outcome = draw(alloc, &mut devices.input, &mut devices.output, &options);
+    finished(&mut devices.errors, outcome)
+}
+
+/// Writes each line of the plan of the job in the input with its answer and the heap after it, from line `args.from` to
+/// line `args.to`, as text (`describe`). If the run stops with an error, writes the error's line to `errors`. Returns
+/// the exit status.
+///
+/// The exit status and the line in `errors` are those of `replay_run`. Nothing is written to the output if the input
+/// failed or its text has a fault.
+pub fn draw_text_run<I: Source, O: Sink, E: Sink>(
+    alloc: Global,
+    args: &DrawArgs,
+    devices: &mut Devices<I, O, E>,
+) -> u8
+    requires { IsSound devices.old }
+    ensures { EndsDrawText args.now devices.old devices.new result }
+{
+    let outcome = describe(
+        alloc,
+        &mut devices.input,
+        &mut devices.output,
+        args.from,
+        args.to,
+    );
     finished(&mut devices.errors, outcome)
 }
 
