@@ -30,9 +30,9 @@ three_on before words after text more is = rw is (simp append_assoc)
 words_on : (words text more : List ℕ) → HasWords words text → HasWords words (text ++ more)
 words_on words text more has = record {
   before = has.before;
-  label = has.label;
+  place = has.place;
   after = has.after ++ more;
-  is = three_on has.before (words_text has.label words) has.after text more has.is;
+  is = three_on has.before (words_text has.place words) has.after text more has.is;
 }
 
 -- a text begins as before if more is appended

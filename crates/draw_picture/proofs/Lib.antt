@@ -1,2 +1,3 @@
 mod Captions
 mod Heads
+pub mod Rows

@@ -7,8 +7,8 @@ use Rattle.draw_picture.specs.declared.gathering.Line.{Line}
 -- a caption ends at this line, and has the line's words and answer, each cut
 pub record IsCaptionOf (caption : Caption) (line : Line) : Type 0 where
   pub to : caption.to ≡ line.number
-  pub words : caption.words.items ≡ cut_text 60 line.words.now
-  pub answer : caption.answer.items ≡ cut_text 72 line.answer.now
+  pub words : caption.words.items ≡ cut_text 50 line.words.now
+  pub answer : caption.answer.items ≡ cut_text 56 line.answer.now
 
 -- this caption is the last one
 abbrev pub EndsWith : List Caption → Caption → Type 0

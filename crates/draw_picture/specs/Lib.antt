@@ -1,4 +1,15 @@
+pub mod Alike
+pub mod Arrows
+pub mod Captions
 pub mod Cards
 pub mod Gatherings
+pub mod Layouts
+pub mod Lettering
+pub mod Meshes
 pub mod Notes
+pub mod Numbers
+pub mod Objects
+pub mod Occupancy
+pub mod Pages
+pub mod Parts
 pub mod Pictures

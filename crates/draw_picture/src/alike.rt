@@ -1,8 +1,10 @@
 //! Whether two frames look alike.
+ghost use Rattle.std.specs.Prelude.{◌≡◌};
+ghost use Rattle.draw_picture.specs.Alike.{copied_slots, members_in, order_in};
 ghost use Rattle.mesh_running.specs.StepOrders.{IsStepOrder};
 
 use crate::frame::{Counts, Frame, RunningMesh};
-use crate::numbers::narrow;
+use crate::numbers::{narrow, plus};
 use mesh_running::{MAX_MEMBERS, Progress, StepOrder};
 use std::alloc::{AllocError, Global};
 
@@ -63,18 +65,32 @@ fn have_alike_meshes(one: &Frame, other: &Frame) -> bool {
 /// Returns the step order of a mesh. If the mesh's source has more members than a group can have, returns the order for
 /// the greatest number of members.
 pub fn order_of(frame: &Frame, mesh: &RunningMesh) -> StepOrder
-    ensures { IsStepOrder result }
+    ensures order { IsStepOrder result }
+    ensures value { result ≡ order_in frame.now mesh.now }
 {
-    let members = frame
-        .members
-        .iter()
-        .filter(|m| m.group == mesh.source)
-        .count();
-    StepOrder::new(mesh.class, members.min(MAX_MEMBERS))
+    let members = members_in(frame, mesh.source).min(MAX_MEMBERS as u32);
+    StepOrder::new(mesh.class, members as usize)
+}
+
+/// Returns the number of members of a group.
+fn members_in(frame: &Frame, group: u32) -> u32
+    ensures { result ≡ members_in frame.now group }
+{
+    let mut count = 0u32;
+    let mut rest = frame.members.as_slice();
+    while let [member, behind @ ..] = rest {
+        if member.group == group {
+            count = plus(count, 1);
+        }
+        rest = behind;
+    }
+    count
 }
 
 /// Returns how many slots of its source a mesh has copied. The number is 0 for a cancelled mesh.
-pub fn copied_slots(frame: &Frame, mesh: &RunningMesh) -> u32 {
+pub fn copied_slots(frame: &Frame, mesh: &RunningMesh) -> u32
+    ensures { result ≡ copied_slots frame.now mesh.now }
+{
     match mesh.progress {
         Progress::Unwinding(_, _) => 0,
         Progress::Made(made) => order_of(frame, mesh).copied_after(made),

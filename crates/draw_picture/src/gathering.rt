@@ -1,11 +1,12 @@
 //! The lines above a frame, and whether a new frame is to be drawn.
 ghost use Rattle.std.specs.Prelude.{◌≡◌, ◌++◌, [], IfOk, OnOk, map};
+ghost use Rattle.draw_picture.specs.Cards.{height_of};
 ghost use Rattle.draw_picture.specs.Gatherings.{EndsWith, EndsWithLine, IsCaptionOf};
 ghost use Rattle.draw_picture.specs.Notes.{cut_text, plain_byte};
 
 use crate::alike::{are_alike, copied, empty_frame, shows_nothing};
 use crate::frame::Frame;
-use crate::numbers::narrow;
+use crate::numbers::{narrow, plus};
 use crate::pills::is_step;
 use std::alloc::{AllocError, Global};
 
@@ -14,10 +15,10 @@ use std::alloc::{AllocError, Global};
 pub const MAX_CAPTIONS: usize = 12;
 
 /// The greatest number of bytes that are shown of a line's words.
-const MAX_WORDS: usize = 60;
+const MAX_WORDS: usize = 50;
 
 /// The greatest number of bytes that are shown of an answer.
-const MAX_ANSWER: usize = 72;
+const MAX_ANSWER: usize = 56;
 
 /// A line of a plan that has been run, with its answer.
 #[derive(Clone, Copy)]
@@ -78,7 +79,9 @@ impl Gathering {
     /// Adds a line with its answer. If the line repeats the last caption, the line is merged into that caption. The
     /// only error is an allocation failure.
     pub fn add(&mut self, line: &Line<'_>) -> Result<(), AllocError>
-        ensures { OnOk result (EndsWithLine self.new.captions.items line.now) }
+        ensures ends { OnOk result (EndsWithLine self.new.captions.items line.now) }
+        ensures last { self.new.last ≡ self.old.last }
+        ensures begun { self.new.begun ≡ self.old.begun }
     {
         let mut caption = caption_of(self.alloc, line)?;
         if let Some(last) = self.captions.last_mut() {
@@ -95,7 +98,9 @@ impl Gathering {
     /// Appends a caption. If there are `MAX_CAPTIONS` captions already, first removes the last of them and counts its
     /// lines as hidden. The only error is an allocation failure.
     fn add_behind(&mut self, caption: Caption) -> Result<(), AllocError>
-        ensures { OnOk result (EndsWith self.new.captions.items caption) }
+        ensures ends { OnOk result (EndsWith self.new.captions.items caption) }
+        ensures last { self.new.last ≡ self.old.last }
+        ensures begun { self.new.begun ≡ self.old.begun }
     {
         if self.captions.len() >= MAX_CAPTIONS {
             if let Some(left_out) = self.captions.pop() {
@@ -137,8 +142,10 @@ impl Gathering {
     }
 
     /// Returns the number of lines of text above a frame.
-    pub fn height(&self) -> u32 {
-        narrow(self.captions.len()).saturating_add(self.hidden.min(1))
+    pub fn height(&self) -> u32
+        ensures { result ≡ height_of self.now }
+    {
+        plus(narrow(self.captions.len()), self.hidden.min(1))
     }
 }
 

@@ -1,66 +1,104 @@
 //! Drawing the legend: the signs of a picture and their meanings.
 use crate::layout::MARGIN;
-use crate::lettering::{Face, Label, width_of};
-use draw_svg::{Area, Look, Shapes};
+use crate::lettering::{Face, Label};
+use draw_svg::{Area, Look, write_rect};
+use std::alloc::{AllocError, Global};
 
-/// The top of the signs.
-const TOP: u32 = 430;
+/// The upper sides of the signs in the first and in the second line.
+const FIRST: u32 = 600;
 
-/// Draws the signs of a picture of pages if `by_pages`, and otherwise the signs of a map of occupancy.
-pub(crate) fn draw_legend(shapes: &mut Shapes, by_pages: bool) {
+const SECOND: u32 = 780;
+
+/// Returns the signs of a picture of pages if `by_pages`, and otherwise the signs of a map of occupancy.
+pub(crate) fn legend(alloc: Global, by_pages: bool) -> Result<Vec<u8>, AllocError> {
+    let mut shapes = Vec::new(alloc);
     if by_pages {
-        draw_signs_of_pages(shapes)
+        write_signs_of_pages(&mut shapes)?;
     } else {
-        draw_signs_of_map(shapes)
+        write_signs_of_map(&mut shapes)?;
     }
+    Ok(shapes)
 }
 
-/// Draws the signs of a picture of pages. The colour with the number 0 represents all objects.
-fn draw_signs_of_pages(shapes: &mut Shapes) {
+/// Appends the signs of a picture of pages. The colour with the number 0 represents all objects.
+fn write_signs_of_pages(shapes: &mut Vec<u8>) -> Result<(), AllocError> {
     let object = Look::nth("o", 0);
-    shapes.rect(object.with("rest"), Area::at(MARGIN, TOP, 240, 120), 0);
-    shapes.rect(object, Area::at(MARGIN, TOP, 160, 120), 0);
-    let meaning = "object with its serial; pale: the rest of its slot";
-    let left = draw_meaning(shapes, meaning, MARGIN);
-    let left = draw_sign(shapes, object.with("copy"), "copied, not yet mapped", left);
-    let left = draw_sign(shapes, object.with("old"), "bytes no longer mapped", left);
-    let left = draw_sign(
+    write_rect(
+        shapes,
+        &object.with("rest"),
+        &Area::at(MARGIN, FIRST, 240, 120),
+        0,
+    )?;
+    write_rect(shapes, &object, &Area::at(MARGIN, FIRST, 160, 120), 0)?;
+    write_meaning(shapes, "object; pale: rest of its slot", MARGIN, FIRST)?;
+    write_sign(
+        shapes,
+        object.with("copy"),
+        "copied, not yet mapped",
+        2_850,
+        FIRST,
+    )?;
+    write_sign(
+        shapes,
+        object.with("old"),
+        "bytes no longer mapped",
+        5_100,
+        FIRST,
+    )?;
+    write_sign(
         shapes,
         Look::of("ro"),
         "read-only: stores are blocked",
-        left,
-    );
-    draw_sign(
+        MARGIN,
+        SECOND,
+    )?;
+    write_sign(
         shapes,
         Look::of("new"),
         "changed by the last of the lines",
-        left,
-    );
+        2_850,
+        SECOND,
+    )
 }
 
-/// Draws the signs of a map of occupancy.
-fn draw_signs_of_map(shapes: &mut Shapes) {
-    let meaning = "slots with an object in some span of the group";
-    let left = draw_sign(shapes, Look::of("occ"), meaning, MARGIN);
-    let left = draw_sign(shapes, Look::of("pg"), "slots without one", left);
-    draw_sign(
+/// Appends the signs of a map of occupancy.
+fn write_signs_of_map(shapes: &mut Vec<u8>) -> Result<(), AllocError> {
+    write_sign(
+        shapes,
+        Look::of("occ"),
+        "slot with an object",
+        MARGIN,
+        FIRST,
+    )?;
+    write_sign(shapes, Look::of("pg"), "slots without one", 2_850, FIRST)?;
+    write_sign(
         shapes,
         Look::of("rom"),
         "read-only: stores are blocked",
-        left,
-    );
+        MARGIN,
+        SECOND,
+    )
 }
 
-/// Draws a sign and its meaning. Returns the left side of the next sign.
-fn draw_sign(shapes: &mut Shapes, look: Look, meaning: &str, x: u32) -> u32 {
-    shapes.rect(look, Area::at(x, TOP, 240, 120), 0);
-    draw_meaning(shapes, meaning, x)
+/// Appends a sign and its meaning.
+fn write_sign(
+    shapes: &mut Vec<u8>,
+    look: Look,
+    meaning: &str,
+    x: u32,
+    y: u32,
+) -> Result<(), AllocError> {
+    write_rect(shapes, &look, &Area::at(x, y, 240, 120), 0)?;
+    write_meaning(shapes, meaning, x, y)
 }
 
-/// Draws the meaning of the sign with the left side `x`. Returns the left side of the next sign.
-fn draw_meaning(shapes: &mut Shapes, meaning: &str, x: u32) -> u32 {
-    let label = Label::start(Face::Label, "soft", x.saturating_add(310), TOP + 97);
-    label.say(shapes, meaning, &[]);
-    let width = width_of(Face::Label, meaning.as_bytes());
-    x.saturating_add(width).saturating_add(560)
+/// Appends the meaning of the sign with the upper left corner (`x`, `y`).
+fn write_meaning(shapes: &mut Vec<u8>, meaning: &str, x: u32, y: u32) -> Result<(), AllocError> {
+    Label::start(
+        Face::Plain,
+        "soft",
+        x.saturating_add(310),
+        y.saturating_add(100),
+    )
+    .write(shapes, meaning.as_bytes())
 }

@@ -1,87 +1,70 @@
-//! Labels: text of a width that does not depend on the reader's fonts.
-use crate::numbers::share;
-use draw_svg::{Anchor, Label as Place, Look, Shapes};
+//! Labels: words in letters of a fixed width, which does not depend on the reader's fonts.
+ghost use Rattle.std.specs.Prelude.{◌≡◌, ◌++◌, OnOk};
+ghost use Rattle.draw_picture.specs.Lettering.{advance, beginning, centred, ending, face_rule, inked, is_letter, label_text, letters, lettering_of, limited, words_width};
+ghost use Rattle.draw_svg.specs.Templates.{filled};
 
-/// The kinds of lettering: those of the title, of notes, of the lines of the plan with their numbers and answers, of
-/// labels, and of objects' serials, also where there is little room.
+use crate::numbers::{plus, times};
+use draw_svg::{Anchor, Label as Place, Look, words_of, write_words};
+use std::alloc::AllocError;
+
+/// The kinds of lettering: that of the title, the usual one, and that of names.
 #[derive(Clone, Copy)]
 pub enum Face {
     Title,
-    Note,
-    Strong,
-    Line,
-    Number,
-    Pill,
-    Label,
-    Name,
-    Small,
-    Mark,
-    Serial,
-    Tight,
-}
-
-/// The weight of letters.
-#[derive(Clone, Copy)]
-enum Weight {
     Plain,
-    Bold,
-    Fixed,
+    Strong,
 }
 
 impl Face {
-    /// Returns the style rule of the lettering, the height of the letters as in the style rules, and their weight.
-    fn design(self) -> (&'static str, u32, Weight) {
+    /// Returns the style rule of the lettering.
+    fn rule(self) -> &'static str
+        ensures { result.now ≡ face_rule self }
+    {
         match self {
-            Face::Title => ("ft", 170, Weight::Bold),
-            Face::Note => ("fn", 110, Weight::Plain),
-            Face::Strong => ("fs", 110, Weight::Bold),
-            Face::Line => ("fl", 115, Weight::Fixed),
-            Face::Number => ("fm", 100, Weight::Fixed),
-            Face::Pill => ("fp", 105, Weight::Fixed),
-            Face::Label => ("fa", 100, Weight::Plain),
-            Face::Name => ("fb", 100, Weight::Bold),
-            Face::Small => ("fi", 90, Weight::Plain),
-            Face::Mark => ("fk", 90, Weight::Bold),
-            Face::Serial => ("fo", 105, Weight::Plain),
-            Face::Tight => ("fq", 75, Weight::Plain),
+            Face::Title => "ft",
+            Face::Plain => "fn",
+            Face::Strong => "fs",
+        }
+    }
+
+    /// Returns the width of a letter, for the sizes in the style rules.
+    fn advance(self) -> u32
+        ensures { result ≡ advance self }
+    {
+        match self {
+            Face::Title => 102,
+            _ => 66,
         }
     }
 }
 
-/// Returns the width of the letter with this byte, in hundredths of the height. A continuation byte of a UTF-8 letter
-/// has width 0.
-fn percent(weight: Weight, byte: u8) -> u32 {
-    if (128..=191).contains(&byte) {
-        return 0;
+/// Returns the number of letters in words of UTF-8.
+fn letters(words: &[u8]) -> u32
+    ensures { result ≡ letters words.now }
+{
+    let mut count = 0u32;
+    let mut rest = words;
+    while let [byte, behind @ ..] = rest {
+        if is_letter(*byte) {
+            count = plus(count, 1);
+        }
+        rest = behind;
     }
-    match weight {
-        Weight::Plain => plain_percent(byte),
-        Weight::Bold => plain_percent(byte).saturating_add(8),
-        Weight::Fixed => 60,
-    }
+    count
 }
 
-/// Returns the width of a letter that is neither bold nor of fixed width, in hundredths of the height.
-fn plain_percent(byte: u8) -> u32 {
-    match byte {
-        b'i' | b'j' | b'l' | b'.' | b',' | b':' | b';' | b'|' | b'\'' | b'!' => 30,
-        b' ' | b'f' | b't' | b'r' | b'(' | b')' | b'-' | b'/' => 38,
-        b'm' | b'w' | b'M' | b'W' => 90,
-        b'=' | b'+' => 80,
-        b'A'..=b'Z' => 68,
-        192..=255 => 82,
-        _ => 61,
-    }
+/// Whether a byte isn't the continuation of a letter.
+fn is_letter(byte: u8) -> bool
+    ensures { result ≡ is_letter byte }
+{
+    byte < 128 || 192 <= byte
 }
 
 /// Returns the width of words in this lettering.
-pub fn width_of(face: Face, words: &[u8]) -> u32 {
-    let (_, size, weight) = face.design();
-    let mut hundredths = 0u32;
-    for byte in words {
-        hundredths = hundredths.saturating_add(percent(weight, *byte));
-    }
-    share(size, hundredths, 100)
+pub fn width_of(face: Face, words: &[u8]) -> u32
+    ensures { result ≡ words_width face words.now }
+{
+    times(letters(words), face.advance())
 }
 
 /// The lettering, the colour and the place of words.
@@ -103,7 +86,10 @@ pub struct Label {
 
 impl Label {
     /// Returns the label of words that start at a place.
-    pub fn start(face: Face, ink: &'static str, x: u32, y: u32) -> Label {
+    #[tactic(auto, unfolding(crate::specs::Lettering::lettering_of))]
+    pub fn start(face: Face, ink: &'static str, x: u32, y: u32) -> Label
+        ensures { lettering_of result ≡ beginning face ink.now x y }
+    {
         Label {
             face,
             ink: Look::of(ink),
@@ -115,7 +101,10 @@ impl Label {
     }
 
     /// Returns the label of words that end at a place.
-    pub fn end(face: Face, ink: &'static str, x: u32, y: u32) -> Label {
+    #[tactic(auto, unfolding(crate::specs::Lettering::lettering_of))]
+    pub fn end(face: Face, ink: &'static str, x: u32, y: u32) -> Label
+        ensures { lettering_of result ≡ ending face ink.now x y }
+    {
         let anchor = Anchor::End;
         Label {
             anchor,
@@ -124,7 +113,10 @@ impl Label {
     }
 
     /// Returns the label of words that are centred at a place.
-    pub fn middle(face: Face, ink: &'static str, x: u32, y: u32) -> Label {
+    #[tactic(auto, unfolding(crate::specs::Lettering::lettering_of))]
+    pub fn middle(face: Face, ink: &'static str, x: u32, y: u32) -> Label
+        ensures { lettering_of result ≡ centred face ink.now x y }
+    {
         let anchor = Anchor::Middle;
         Label {
             anchor,
@@ -132,38 +124,47 @@ impl Label {
         }
     }
 
-    /// Returns this label in another colour.
-    pub fn inked(self, ink: Look) -> Label {
-        Label { ink, ..self }
+    /// Returns this label in the colour with a number in a family of colours.
+    #[tactic(auto, unfolding(crate::specs::Lettering::lettering_of))]
+    pub fn inked(self, family: &'static str, number: u32) -> Label
+        ensures { lettering_of result ≡ inked (lettering_of self) family.now number }
+    {
+        Label {
+            ink: Look::nth(family, number),
+            ..self
+        }
     }
 
     /// Returns this label with `room` as the greatest width of the words.
-    pub fn within(self, room: u32) -> Label {
+    #[tactic(auto, unfolding(crate::specs::Lettering::lettering_of))]
+    pub fn within(self, room: u32) -> Label
+        ensures { lettering_of result ≡ limited (lettering_of self) room }
+    {
         Label { room, ..self }
     }
 
-    /// Draws words, with numbers in the places of `#`.
-    pub fn say(self, shapes: &mut Shapes, template: &str, numbers: &[u32]) {
-        let words = shapes.spell(b"", template, numbers);
-        self.draw(shapes, words);
+    /// Appends the words of a template, with numbers in the places of `#`.
+    pub fn say(self, text: &mut Vec<u8>, template: &str, numbers: &[u32]) -> Result<(), AllocError>
+        ensures { OnOk result
+            (text.new.items ≡ text.old.items ++ label_text (lettering_of self) (filled template.now numbers.now)) }
+    {
+        let words = words_of(*text.allocator(), b"", template, numbers)?;
+        self.write(text, words.as_slice())
     }
 
-    /// Draws words.
-    pub fn draw(self, shapes: &mut Shapes, words: Vec<u8>) {
-        let place = self.place_of(words.as_slice());
-        shapes.words(place, words);
-    }
-
-    /// Returns the place and the style of words.
-    pub fn place_of(self, words: &[u8]) -> Place {
-        let (rule, _, _) = self.face.design();
-        let width = width_of(self.face, words);
-        Place {
-            look: self.ink.with(rule),
+    /// Appends words.
+    #[tactic(auto, unfolding(crate::specs::Lettering::label_text, crate::specs::Lettering::lettering_of))]
+    pub fn write(self, text: &mut Vec<u8>, words: &[u8]) -> Result<(), AllocError>
+        ensures { OnOk result (text.new.items ≡ text.old.items ++ label_text (lettering_of self) words.now) }
+    {
+        let width = width_of(self.face, words).min(self.room).max(1);
+        let place = Place {
+            look: self.ink.with(self.face.rule()),
             anchor: self.anchor,
             x: self.x,
             y: self.y,
-            width: Some(width.min(self.room).max(1)),
-        }
+            width: Some(width),
+        };
+        write_words(text, &place, words)
     }
 }

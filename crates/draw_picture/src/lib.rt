@@ -7,12 +7,14 @@
 //! a `Measure`, and the second time to the `Picture` that is made from the measure. The picture appends its text to a
 //! buffer.
 //!
-//! These modules measure a card: `parts`, `layout`, `lettering` and `pills`. These modules draw it: `pages`,
-//! `objects`, `occupancy`, `mesh_bar`, `arrows` and `legend`. `notes` writes a picture's title, and the note after it.
+//! `layout` places the parts of a card, and `card` draws it: `pills` draws the lines above a frame, `mesh_bar` its running
+//! meshes, `pages` its pages with the help of `parts`, `objects` and `arrows`, and `occupancy` a map in place of them.
+//! `lettering` draws all words. `notes` writes a picture's title, and the note below it.
 #![tactic(auto)]
 
 mod alike;
 mod arrows;
+mod card;
 mod frame;
 mod gathering;
 mod layout;

@@ -3,9 +3,8 @@ ghost use Rattle.std.specs.Prelude.{◌≡◌, ◌+◌, OnOk};
 
 use crate::frame::Frame;
 use crate::gathering::{Gathering, Line};
-use crate::layout::{Extent, Layout, MAX_PAGES, Span, pages_of};
+use crate::layout::{Extent, Layout, Span, pages_of};
 use crate::numbers::narrow;
-use crate::parts::groups_of;
 use crate::pills::caption_width;
 use std::alloc::{AllocError, Global};
 use std::marker::Model;
@@ -105,7 +104,7 @@ fn extent_of(gathering: &Gathering, frame: &Frame) -> Extent {
     Extent {
         lines: gathering.height(),
         meshes: narrow(frame.meshes.len()),
-        groups: groups_of(frame),
+        members: narrow(frame.members.len()),
     }
 }
 
@@ -134,12 +133,15 @@ fn physical_of(frame: &Frame) -> u32 {
     count
 }
 
-/// Adds the spans of a frame that `spans` doesn't contain yet. If `spans` has more than `MAX_PAGES` pages, adds no
+/// The greatest number of pages that are considered for a place: more don't fit into a card.
+const MOST_PAGES: u32 = 40;
+
+/// Adds the spans of a frame that `spans` doesn't contain yet. If `spans` has more than `MOST_PAGES` pages, adds no
 /// span, because the picture is a map of occupancy in that case. The only error is an allocation failure.
 fn add_spans(spans: &mut Vec<Span>, frame: &Frame) -> Result<(), AllocError> {
     for member in frame.members.as_slice() {
         let known = spans.iter().any(|s| s.first == member.first);
-        if !known && pages_of(spans.as_slice()) <= MAX_PAGES {
+        if !known && pages_of(spans.as_slice()) <= MOST_PAGES {
             spans.push(Span {
                 first: member.first,
                 class: member.class,

@@ -1,16 +1,11 @@
-//! The title of a picture, and the note after it.
+//! The note below the title of a picture.
 ghost use Rattle.std.specs.Prelude.{◌≡◌, ◌++◌, ◌≤◌, IfOk};
-ghost use Rattle.draw_picture.specs.Cards.{DrawsWords};
 ghost use Rattle.draw_picture.specs.Notes.{header_text, lines_between, lines_text, note_text};
 ghost use Rattle.draw_svg.specs.Begins.{Begins};
 
-use crate::lettering::Label;
 use crate::picture::Header;
-use draw_svg::{Shape, Text, words_of};
+use draw_svg::words_of;
 use std::alloc::{AllocError, Global};
-
-/// What the word `saved` of a card means.
-const SAVED: &str = "; saved = virtual pages mapped − physical pages taken";
 
 /// Returns the numbers of the first and the last line from `first` on that come before line `next`, or `None` if there
 /// is no such line.
@@ -25,8 +20,8 @@ pub(crate) fn lines_between(first: usize, next: usize) -> Option<(u32, u32)>
     }
 }
 
-/// Returns the note after a title: the values of the job's header, the numbers of the first and the last line, and what
-/// `saved` means. The only error is an allocation failure.
+/// Returns the note after a title: the values of the job's header, and the numbers of the first and the last line.
+/// The only error is an allocation failure.
 pub(crate) fn note_of(
     alloc: Global,
     header: Header,
@@ -36,8 +31,7 @@ pub(crate) fn note_of(
         (λ note. Begins (note_text header.version header.pages header.workers lines) note.items) }
 {
     let about = header_words(alloc, header)?;
-    let note = add_lines(alloc, about, lines)?;
-    words_of(alloc, note.as_slice(), SAVED, &[])
+    add_lines(alloc, about, lines)
 }
 
 /// Returns the values of a job's header as words.
@@ -82,24 +76,4 @@ fn add_lines(
             )
         }
     }
-}
-
-/// Appends words at the place of a label. If an allocation fails, the text records it.
-pub(crate) fn add_words(text: &mut Text, label: Label, words: &[u8])
-    ensures { DrawsWords text.old text.new words.now }
-{
-    let place = label.place_of(words);
-    match copy_of(text.alloc(), words) {
-        Ok(copy) => text.add_shape(&Shape::Words(place, copy)),
-        Err(_) => text.refuse(),
-    }
-}
-
-/// Returns a copy of words.
-fn copy_of(alloc: Global, words: &[u8]) -> Result<Vec<u8>, AllocError>
-    ensures { IfOk result (λ copy. copy.items ≡ words.now) }
-{
-    let mut copy = Vec::new(alloc);
-    copy.extend_from_slice(words)?;
-    Ok(copy)
 }

@@ -1,197 +1,212 @@
-//! Drawing the map of occupancy: a row for each group.
-use crate::frame::{Mapping, Member, Object};
-use crate::layout::{MAX_ROWS, ROW};
+//! Drawing the map of occupancy: a row for each member of each group.
+ghost use Rattle.std.specs.Prelude.{◌≡◌, ◌++◌, OnOk};
+ghost use Rattle.std.specs.List.{flat_map};
+ghost use Rattle.draw_picture.specs.Occupancy.{is_held, left_out_text, map_text, member_text, occupied, occupied_text, role_text, row_text, rows_text, slots_text, state_text};
+
+use crate::frame::{Frame, Member, Object, RunningMesh};
+use crate::layout::{MAX_ROWS, PAD, ROW};
 use crate::lettering::{Face, Label};
-use crate::numbers::{narrow, share, sum};
-use crate::pages::{GROUP_COLOURS, Scene};
-use draw_svg::{Area, Look, Shapes};
-use mesh_class::Class;
-use std::alloc::{AllocError, Global};
+use crate::numbers::{narrow, plus, share, times};
+use crate::pages::write_counts;
+use crate::parts::{GROUP_COLOURS, has_page};
+use draw_svg::{Area, Look, end_group, write_group, write_rect};
+use std::alloc::AllocError;
 
-/// The width of the area that shows a group's slots.
-const SLOTS: u32 = 2_560;
+/// The width of the area that shows a member's slots.
+const SLOTS: u32 = 3_000;
 
-/// The left or right sides of a row's columns, from the card's left side.
-const NAME: u32 = 120;
+/// The left or right sides of a row's columns.
+const CLASS: u32 = 1_250;
 
-const CLASS: u32 = 1_400;
+const SPAN: u32 = 1_350;
 
-const MEMBERS: u32 = 1_520;
+const MAP: u32 = 2_150;
 
-const MAP: u32 = 2_260;
+const COUNT: u32 = 5_700;
 
-const COUNT: u32 = 5_460;
+const HELD: u32 = 5_800;
 
-const HELD: u32 = 5_560;
+const MESH: u32 = 6_500;
 
-const MESH: u32 = 6_240;
+/// The upper side of the first row.
+const TOP: u32 = 200;
 
-/// The values of a group that its row shows.
-#[derive(Drop)]
-struct Row {
-    group: u32,
-    class: Class,
-    /// The number of the group's members so far.
-    members: u32,
-    /// The slots of the group's objects.
-    slots: Vec<u32>,
-    /// Whether a page of the group is read-only.
-    read_only: bool,
+/// Appends the map of a frame: the counts, a row for each member up to `MAX_ROWS` rows, and the number of members that
+/// are left out.
+#[tactic(auto, unfolding(crate::specs::Occupancy::map_text))]
+pub(crate) fn write_map(text: &mut Vec<u8>, frame: &Frame, card: u32) -> Result<(), AllocError>
+    ensures { OnOk result (text.new.items ≡ text.old.items ++ map_text frame.now card) }
+{
+    write_counts(text, &frame.counts, card, 110)?;
+    let members = frame.members.as_slice();
+    let shown = members.len().min(MAX_ROWS);
+    write_rows(text, frame, &members[..shown])?;
+    write_left_out(text, narrow(members.len() - shown))
 }
 
-impl Row {
-    /// Returns a row of no group.
-    fn new(alloc: Global) -> Row {
-        Row {
-            group: 0,
-            class: Class::default(),
-            members: 0,
-            slots: Vec::new(alloc),
-            read_only: false,
-        }
-    }
-
-    /// Clears the row, and begins the row of the group that `member` belongs to.
-    fn begin(&mut self, member: &Member) {
-        self.group = member.group;
-        self.class = member.class;
-        self.members = 0;
-        self.slots.clear();
-        self.read_only = false;
-    }
-
-    /// Adds a member with these mappings and objects. The only error is an allocation failure.
-    fn add(&mut self, leads: &[Mapping], objects: &[Object]) -> Result<(), AllocError> {
-        self.members = self.members.saturating_add(1);
-        self.read_only = self.read_only || leads.iter().any(|l| l.read_only);
-        for object in objects {
-            self.slots.push(object.slot)?;
-        }
-        Ok(())
-    }
-}
-
-/// Returns the first `count` items, and the items after them. If there are fewer items, the first part has all of them.
-fn split<T>(items: &[T], count: usize) -> (&[T], &[T]) {
-    items.split_at(count.min(items.len()))
-}
-
-/// Draws a row for each group, up to `MAX_ROWS` rows, and the number of groups that are left out.
-pub(crate) fn draw_groups(shapes: &mut Shapes, scene: &Scene) -> Result<(), AllocError> {
-    let mut leads = scene.now.leads.as_slice();
-    let mut objects = scene.now.objects.as_slice();
-    let mut row = Row::new(shapes.alloc());
-    let mut drawn = 0u32;
-    for member in scene.now.members.as_slice() {
-        if row.members == 0 || row.group != member.group {
-            drawn = draw_row(shapes, scene, &mut row, drawn);
-            row.begin(member);
-        }
-        let count = objects
-            .iter()
-            .take_while(|o| o.member == member.first)
-            .count();
-        let (its_objects, more_objects) = split(objects, count);
-        let (its_leads, more_leads) = split(leads, member.class.pages() as usize);
-        row.add(its_leads, its_objects)?;
-        objects = more_objects;
-        leads = more_leads;
-    }
-    let drawn = draw_row(shapes, scene, &mut row, drawn);
-    if drawn > MAX_ROWS {
-        let line = row_line(scene, MAX_ROWS).saturating_add(5);
-        let label = Label::start(Face::Note, "soft", scene.across(NAME), line);
-        label.say(
-            shapes,
-            ".. and # more groups",
-            &[drawn.saturating_sub(MAX_ROWS)],
-        );
+/// Appends a row for each of these members.
+fn write_rows(text: &mut Vec<u8>, frame: &Frame, members: &[Member]) -> Result<(), AllocError>
+    ensures { OnOk result (text.new.items ≡ text.old.items ++ rows_text frame.now 0 members.now) }
+{
+    let mut row = 0u32;
+    let mut rest = members;
+    while let [member, behind @ ..] = rest {
+        write_row(text, frame, row, member)?;
+        row = plus(row, 1);
+        rest = behind;
     }
     Ok(())
 }
 
-/// Returns the baseline of a row's words.
-fn row_line(scene: &Scene, row: u32) -> u32 {
-    sum(scene.top, row.saturating_mul(ROW), 95)
+/// Appends the number of members that are left out, if there are any.
+#[tactic(auto, unfolding(crate::specs::Occupancy::left_out_text))]
+fn write_left_out(text: &mut Vec<u8>, members: u32) -> Result<(), AllocError>
+    ensures { OnOk result (text.new.items ≡ text.old.items ++ left_out_text members) }
+{
+    if members == 0 {
+        return Ok(());
+    }
+    let line = plus(TOP + 110, times(MAX_ROWS as u32, ROW));
+    Label::start(Face::Plain, "soft", PAD, line).say(text, ".. and # more spans", &[members])
 }
 
-/// Draws a group's row, unless the row is empty or `MAX_ROWS` rows are drawn already. Returns `drawn`, plus one if the
-/// row isn't empty.
-fn draw_row(shapes: &mut Shapes, scene: &Scene, row: &mut Row, drawn: u32) -> u32 {
-    if row.members == 0 {
-        return drawn;
-    }
-    if drawn < MAX_ROWS {
-        let line = row_line(scene, drawn);
-        draw_group(shapes, scene, row, line);
-        row.slots.sort_unstable();
-        draw_slots(shapes, scene, row, line);
-        draw_count(shapes, scene, row, line);
-        draw_meshes_of(shapes, scene, row, line);
-    }
-    drawn.saturating_add(1)
+/// Appends the row of a member.
+#[tactic(auto, unfolding(crate::specs::Occupancy::row_text))]
+fn write_row(text: &mut Vec<u8>, frame: &Frame, row: u32, member: &Member) -> Result<(), AllocError>
+    ensures { OnOk result (text.new.items ≡ text.old.items ++ row_text frame.now row member.now) }
+{
+    write_group(text, PAD, plus(TOP, times(row, ROW)))?;
+    write_member(text, member)?;
+    write_slots(text, frame, member)?;
+    write_state(text, frame, member)?;
+    write_roles(text, frame, member.group)?;
+    end_group(text)
 }
 
-/// Draws a group's name, its class and its number of members.
-fn draw_group(shapes: &mut Shapes, scene: &Scene, row: &Row, line: u32) {
-    let name = Label::start(Face::Name, "", scene.across(NAME), line).within(CLASS - NAME - 480);
-    let ink = Look::nth("k", row.group % GROUP_COLOURS);
-    name.inked(ink).say(shapes, "group #", &[row.group]);
-    let class = Label::end(Face::Small, "soft", scene.across(CLASS), line);
-    class.say(shapes, "# B", &[row.class.size()]);
-    let words = if row.members == 1 {
-        "# span"
-    } else {
-        "# spans"
+/// Appends the roles of a group in running meshes.
+fn write_roles(text: &mut Vec<u8>, frame: &Frame, group: u32) -> Result<(), AllocError>
+    ensures { OnOk result (text.new.items ≡ text.old.items ++ flat_map (role_text group) frame.now.meshes.items) }
+{
+    for mesh in frame.meshes.as_slice() {
+        write_role(text, group, mesh)?;
+    }
+    Ok(())
+}
+
+/// Appends the group, the class and the span of a member.
+#[tactic(auto, unfolding(crate::specs::Occupancy::member_text))]
+fn write_member(text: &mut Vec<u8>, member: &Member) -> Result<(), AllocError>
+    ensures { OnOk result (text.new.items ≡ text.old.items ++ member_text member.now) }
+{
+    Label::start(Face::Strong, "", 0, 110)
+        .inked("k", member.group % GROUP_COLOURS)
+        .within(CLASS - 480)
+        .say(text, "group #", &[member.group])?;
+    Label::end(Face::Plain, "soft", CLASS, 110).say(text, "# B", &[member.class.size()])?;
+    Label::start(Face::Plain, "soft", SPAN, 110)
+        .within(MAP - SPAN - 60)
+        .say(text, "span #", &[member.first])
+}
+
+/// Appends which slots of a member are occupied.
+#[tactic(auto, unfolding(crate::specs::Occupancy::slots_text))]
+fn write_slots(text: &mut Vec<u8>, frame: &Frame, member: &Member) -> Result<(), AllocError>
+    ensures { OnOk result (text.new.items ≡ text.old.items ++ slots_text frame.now member.now) }
+{
+    let look = Look::of(if is_held(frame, member) { "rom" } else { "pg" });
+    let area = Area {
+        x: MAP,
+        y: 20,
+        w: SLOTS,
+        h: 110,
     };
-    Label::start(Face::Small, "soft", scene.across(MEMBERS), line)
-        .within(MAP - MEMBERS - 80)
-        .say(shapes, words, &[row.members]);
+    write_rect(text, &look, &area, 0)?;
+    write_all_occupied(text, frame, member)
 }
 
-/// Draws which slots of a group are occupied.
-fn draw_slots(shapes: &mut Shapes, scene: &Scene, row: &Row, line: u32) {
-    let area = Area::at(scene.across(MAP), line.saturating_sub(75), SLOTS, 95);
-    shapes.rect(Look::of(if row.read_only { "rom" } else { "pg" }), area, 0);
-    let mut from = 0u32;
-    let mut to = 0u32;
-    for slot in row.slots.as_slice() {
-        if *slot != to {
-            draw_run(shapes, row.class, from, to, area);
-            from = *slot;
+/// Appends the occupied slots of a member.
+fn write_all_occupied(text: &mut Vec<u8>, frame: &Frame, member: &Member) -> Result<(), AllocError>
+    ensures { OnOk result
+        (text.new.items ≡ text.old.items ++ flat_map (occupied_text member.now) frame.now.objects.items) }
+{
+    for object in frame.objects.as_slice() {
+        write_occupied(text, member, object)?;
+    }
+    Ok(())
+}
+
+/// Whether a page of a member is read-only.
+fn is_held(frame: &Frame, member: &Member) -> bool
+    ensures { result ≡ is_held frame.now member.now }
+{
+    let mut rest = frame.leads.as_slice();
+    while let [lead, behind @ ..] = rest {
+        if lead.read_only && has_page(member, lead.virtual_page) {
+            return true;
         }
-        to = slot.saturating_add(1);
+        rest = behind;
     }
-    draw_run(shapes, row.class, from, to, area);
+    false
 }
 
-/// Draws a run of occupied slots, from the slot `from` to the slot before `to`.
-fn draw_run(shapes: &mut Shapes, class: Class, from: u32, to: u32, area: Area) {
-    if from < to {
-        let x = area.x.saturating_add(share(area.w, from, class.slots()));
-        let w = share(area.w, to.saturating_sub(from), class.slots());
-        shapes.rect(Look::of("occ"), Area { x, w, ..area }.inset(2), 0);
+/// Appends an occupied slot of a member, if the object is one of the member's.
+#[tactic(auto, unfolding(crate::specs::Occupancy::occupied_text))]
+fn write_occupied(text: &mut Vec<u8>, member: &Member, object: &Object) -> Result<(), AllocError>
+    ensures { OnOk result (text.new.items ≡ text.old.items ++ occupied_text member.now object.now) }
+{
+    if object.member != member.first {
+        return Ok(());
+    }
+    let slots = member.class.slots();
+    let area = Area {
+        x: plus(MAP, share(SLOTS, object.slot, slots)),
+        y: 30,
+        w: share(SLOTS, 1, slots),
+        h: 90,
+    };
+    write_rect(text, &Look::of("occ"), &area, 0)
+}
+
+/// Returns the number of a member's objects.
+fn occupied(frame: &Frame, member: &Member) -> u32
+    ensures { result ≡ occupied frame.now member.now }
+{
+    let mut count = 0u32;
+    let mut rest = frame.objects.as_slice();
+    while let [object, behind @ ..] = rest {
+        if object.member == member.first {
+            count = plus(count, 1);
+        }
+        rest = behind;
+    }
+    count
+}
+
+/// Appends the number of occupied slots of a member, and a mark if a page of the member is read-only.
+#[tactic(auto, unfolding(crate::specs::Occupancy::state_text))]
+fn write_state(text: &mut Vec<u8>, frame: &Frame, member: &Member) -> Result<(), AllocError>
+    ensures { OnOk result (text.new.items ≡ text.old.items ++ state_text frame.now member.now) }
+{
+    let objects = occupied(frame, member);
+    Label::end(Face::Plain, "ink", COUNT, 110).say(text, "#/#", &[objects, member.class.slots()])?;
+    if is_held(frame, member) {
+        Label::start(Face::Strong, "amber", HELD, 110).say(text, "read-only", &[])
+    } else {
+        Ok(())
     }
 }
 
-/// Draws the number of occupied slots of a group, and a mark if a page of the group is read-only.
-fn draw_count(shapes: &mut Shapes, scene: &Scene, row: &Row, line: u32) {
-    let count = Label::end(Face::Small, "ink", scene.across(COUNT), line);
-    count.say(shapes, "#/#", &[narrow(row.slots.len()), row.class.slots()]);
-    if row.read_only {
-        let mark = Label::start(Face::Mark, "amber", scene.across(HELD), line);
-        mark.say(shapes, "read-only", &[]);
-    }
-}
-
-/// Draws the role of a group in each running mesh that has the group as its source or destination.
-fn draw_meshes_of(shapes: &mut Shapes, scene: &Scene, row: &Row, line: u32) {
-    let label = Label::start(Face::Mark, "blue", scene.across(MESH), line);
-    for mesh in scene.now.meshes.as_slice() {
-        if mesh.source == row.group {
-            label.say(shapes, "goes into #", &[mesh.destination]);
-        } else if mesh.destination == row.group {
-            label.say(shapes, "takes in #", &[mesh.source]);
-        } else {}
+/// Appends the role of a group in a running mesh, if it is the mesh's source or destination.
+#[tactic(auto, unfolding(crate::specs::Occupancy::role_text))]
+fn write_role(text: &mut Vec<u8>, group: u32, mesh: &RunningMesh) -> Result<(), AllocError>
+    ensures { OnOk result (text.new.items ≡ text.old.items ++ role_text group mesh.now) }
+{
+    let label = Label::start(Face::Strong, "blue", MESH, 110);
+    if mesh.source == group {
+        label.say(text, "goes into #", &[mesh.destination])
+    } else if mesh.destination == group {
+        label.say(text, "takes in #", &[mesh.source])
+    } else {
+        Ok(())
     }
 }

@@ -1,11 +1,16 @@
-//! The contents of a page: the parts of objects.
-use crate::alike::copied_slots;
-use crate::frame::{Frame, Home, Mapping, Member, Object};
+//! The parts of objects in a page, and what a frame says of a page.
+ghost use Rattle.std.specs.Prelude.{◌≡◌, find};
+ghost use Rattle.draw_picture.specs.Parts.{groups_colour, has_page, is_read_only, lead_of, part_of, state_in};
+
+use crate::frame::{Frame, Mapping, Member, Object};
+use crate::numbers::{plus, times};
 use mesh_class::Class;
-use std::alloc::{AllocError, Global};
 
 /// The number of bytes in a page.
 pub const PAGE_BYTES: u32 = 4_096;
+
+/// The number of colours of groups.
+pub const GROUP_COLOURS: u32 = 8;
 
 /// The state of an object's bytes in a physical page.
 #[derive(Clone, Copy, PartialEq, Eq)]
@@ -19,7 +24,7 @@ pub enum State {
 }
 
 /// The part of an object's slot that is in one page.
-#[derive(Clone, Copy, PartialEq, Eq)]
+#[derive(Clone, Copy)]
 pub struct Part {
     /// The object's serial.
     pub serial: u32,
@@ -35,29 +40,17 @@ pub struct Part {
     pub state: State,
 }
 
-/// The contents of a physical page.
-#[derive(Drop)]
-pub struct Contents {
-    /// Whether the page is taken.
-    pub taken: bool,
-    /// The parts of objects in the page.
-    pub parts: Vec<Part>,
-}
-
-/// Whether a page has the same contents twice.
-pub fn are_same(one: &Contents, other: &Contents) -> bool {
-    one.taken == other.taken && one.parts.as_slice() == other.parts.as_slice()
-}
-
 /// Returns the part of an object's slot that is in one page of the object's span. `place` is the page's index in the
 /// span. Returns `None` if the page contains no byte of the slot.
-pub fn part_of(object: &Object, class: Class, place: u32, state: State) -> Option<Part> {
-    let from = object.slot.saturating_mul(class.size());
-    let to = from.saturating_add(class.size());
-    let filled = from.saturating_add(object.len).min(to);
-    let low = place.saturating_mul(PAGE_BYTES);
-    let high = low.saturating_add(PAGE_BYTES);
-    if to <= low || from >= high {
+pub fn part_of(object: &Object, class: Class, place: u32, state: State) -> Option<Part>
+    ensures { result ≡ part_of object.now class place state }
+{
+    let from = times(object.slot, class.size());
+    let to = plus(from, class.size());
+    let filled = plus(from, object.len).min(to);
+    let low = times(place, PAGE_BYTES);
+    let high = plus(low, PAGE_BYTES);
+    if to <= low || high <= from {
         return None;
     }
     Some(Part {
@@ -71,100 +64,61 @@ pub fn part_of(object: &Object, class: Class, place: u32, state: State) -> Optio
 }
 
 /// Returns the mapping of a virtual page, or `None` if the page isn't mapped.
-pub fn lead_of(frame: &Frame, page: u32) -> Option<&Mapping> {
-    frame.leads.iter().find(|l| l.virtual_page == page)
-}
-
-/// Returns the contents of a physical page: the objects of the page's group, and those that a mesh has copied to the
-/// page. A page that is not taken has no parts.
-pub fn held_by(alloc: Global, frame: &Frame, page: u32) -> Result<Contents, AllocError> {
-    let mut parts = Vec::new(alloc);
-    let Some(home) = frame.homes.iter().find(|h| h.page == page && h.taken) else {
-        return Ok(Contents {
-            taken: false,
-            parts,
-        });
-    };
-    add_group(&mut parts, frame, home, home.group, u32::MAX, State::Old)?;
-    for mesh in frame.meshes.as_slice() {
-        if mesh.destination == home.group {
-            let below = copied_slots(frame, mesh);
-            add_group(&mut parts, frame, home, mesh.source, below, State::Copied)?;
+pub fn lead_of(frame: &Frame, page: u32) -> Option<Mapping>
+    ensures { result ≡ lead_of frame.now page }
+{
+    let mut rest = frame.leads.as_slice();
+    while let [lead, behind @ ..] = rest {
+        if lead.virtual_page == page {
+            return Some(*lead);
         }
+        rest = behind;
     }
-    Ok(Contents { taken: true, parts })
+    None
 }
 
-/// Adds the parts of a group's objects that are in a page, for the slots with numbers below `below`. A part is `Live`
-/// if its member is mapped to the page. Otherwise its state is `unmapped`.
-fn add_group(
-    parts: &mut Vec<Part>,
-    frame: &Frame,
-    home: &Home,
-    group: u32,
-    below: u32,
-    unmapped: State,
-) -> Result<(), AllocError> {
-    for member in frame.members.as_slice() {
-        if member.group == group {
-            let state = state_in(frame, member, home, unmapped);
-            add_parts(parts, frame, member, home.place, below, state)?;
-        }
-    }
-    Ok(())
-}
-
-/// Returns the state of a member's bytes in a physical page: `Live` if the member is mapped to the page, and otherwise
-/// `unmapped`.
-fn state_in(frame: &Frame, member: &Member, home: &Home, unmapped: State) -> State {
-    let page = member.first.saturating_add(home.place);
+/// Whether a virtual page is mapped and read-only.
+pub fn is_read_only(frame: &Frame, page: u32) -> bool
+    ensures { result ≡ is_read_only frame.now page }
+{
     match lead_of(frame, page) {
-        Some(lead) if lead.physical_page == home.page => State::Live,
-        _ => unmapped,
+        Some(lead) => lead.read_only,
+        None => false,
     }
 }
 
-/// Adds the parts of a member's objects that are in the page at the index `place` of the member's span. Only objects in
-/// slots with numbers below `below` are added.
-fn add_parts(
-    parts: &mut Vec<Part>,
-    frame: &Frame,
-    member: &Member,
-    place: u32,
-    below: u32,
-    state: State,
-) -> Result<(), AllocError> {
-    for object in frame.objects.as_slice() {
-        if object.member == member.first && object.slot < below {
-            if let Some(part) = part_of(object, member.class, place, state) {
-                parts.push(part)?;
-            }
+/// Returns the state of a member's bytes in the physical page `page` at the index `place` of its group: `Live` if the
+/// member is mapped to the page, and otherwise `unmapped`.
+pub fn state_in(frame: &Frame, member: &Member, place: u32, page: u32, unmapped: State) -> State
+    ensures { result ≡ state_in frame.now member.now place page unmapped }
+{
+    match lead_of(frame, plus(member.first, place)) {
+        Some(lead) => if lead.physical_page == page {
+            State::Live
+        } else {
+            unmapped
+        },
+        None => unmapped,
+    }
+}
+
+/// Whether a virtual page belongs to a member.
+pub fn has_page(member: &Member, page: u32) -> bool
+    ensures { result ≡ has_page page member.now }
+{
+    member.first <= page && page - member.first < member.class.pages()
+}
+
+/// Returns the colour of the group that a virtual page belongs to, or 0 if the page belongs to no member.
+pub fn groups_colour(frame: &Frame, page: u32) -> u32
+    ensures { result ≡ groups_colour frame.now page }
+{
+    let mut rest = frame.members.as_slice();
+    while let [member, behind @ ..] = rest {
+        if has_page(member, page) {
+            return member.group % GROUP_COLOURS;
         }
+        rest = behind;
     }
-    Ok(())
-}
-
-/// Returns the number of groups in a frame.
-pub fn groups_of(frame: &Frame) -> u32 {
-    let mut count = 0u32;
-    let mut last = None;
-    for member in frame.members.as_slice() {
-        if last != Some(member.group) {
-            count = count.saturating_add(1);
-        }
-        last = Some(member.group);
-    }
-    count
-}
-
-/// Returns the group of the member that a virtual page belongs to, or 0 if there is no such member.
-pub fn group_of(frame: &Frame, page: u32) -> u32 {
-    let member = frame
-        .members
-        .iter()
-        .find(|m| m.first <= page && page - m.first < m.class.pages());
-    match member {
-        Some(member) => member.group,
-        None => 0,
-    }
+    0
 }

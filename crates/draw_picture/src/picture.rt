@@ -1,33 +1,30 @@
 //! The picture: one card for each visible change of the heap.
-ghost use Rattle.std.specs.Prelude.{◌≡◌, ◌+◌, ◌≤◌, [], IfOk, IfSome, MatchBool, OnOk, Some, codes};
-ghost use Rattle.draw_picture.specs.Cards.{DrawsCard, DrawsTitle, EndsFile, IsHead};
+ghost use Rattle.std.specs.Prelude.{◌≡◌, ◌+◌, ◌≤◌, ◌++◌, [], IfOk, IfSome, MatchBool, OnOk, Some, codes};
+ghost use Rattle.draw_picture.specs.Cards.{AddsTop, DrawsCard, DrawsPoint, EndsFile, IsHead, Rests, titles_text, top_text};
 ghost use Rattle.draw_picture.specs.Notes.{file_title, lines_between, note_text, shown_title};
 ghost use Rattle.draw_svg.specs.Begins.{Begins};
-ghost use Rattle.draw_svg.specs.Shapes.{Draws};
+ghost use Rattle.draw_svg.specs.Texts.{Adds};
 
-use crate::arrows::draw_arrows;
-use crate::frame::{Counts, Frame};
+use crate::card::write_card;
+use crate::frame::Frame;
 use crate::gathering::{Gathering, Line, cut};
-use crate::layout::{BETWEEN, HEAD, MARGIN, above};
-use crate::legend::draw_legend;
-use crate::lettering::{Face, Label, width_of};
+use crate::layout::{BETWEEN, HEAD, MARGIN};
+use crate::legend::legend;
+use crate::lettering::{Face, Label};
 use crate::measure::{Measure, Measured};
-use crate::mesh_bar::draw_meshes;
-use crate::notes::{add_words, lines_between, note_of};
-use crate::numbers::{narrow, sum};
-use crate::occupancy::draw_groups;
-use crate::pages::{Scene, draw_pages};
-use crate::pills::{LINE, draw_captions};
+use crate::notes::{lines_between, note_of};
+use crate::numbers::{plus, times};
+use crate::pages::Scene;
 use crate::style::add_rules;
-use draw_svg::{Area, Look, Shape, Shapes, Text};
+use draw_svg::{Area, Look, Text, write_rect};
 use std::alloc::{AllocError, Global};
 use std::marker::Model;
 
 /// The greatest number of bytes that are shown of a title.
 const MAX_TITLE: usize = 64;
 
-/// The least width of a picture, which the legend needs.
-const LEAST_WIDTH: u32 = 12_200;
+/// The least width of a picture without its margin, which the legend needs.
+const LEAST_WIDTH: u32 = 8_000;
 
 /// The values in the header of a job file.
 #[derive(Clone, Copy)]
@@ -66,6 +63,8 @@ impl Model for Picture {
       title = picture.title.items;
       name = picture.name.items;
       note = picture.note.items;
+      layout = picture.measured.layout;
+      gathering = picture.gathering;
     } };
 }
 
@@ -135,9 +134,7 @@ impl Picture {
         let all = self.area();
         text.add_root(self.title.as_slice(), all.w, all.h);
         add_rules(text);
-        text.add_shape(&Shape::Rect(Look::of("bg"), all, 0));
-        self.draw_title(text, all.w);
-        self.add_legend(text);
+        self.add_top(text, all);
     }
 
     /// Returns the area of the whole picture.
@@ -145,35 +142,55 @@ impl Picture {
         let width = self.measured.layout.width().max(LEAST_WIDTH);
         let mut height = HEAD;
         for row in self.measured.rows.as_slice() {
-            height = sum(height, *row, BETWEEN);
+            height = plus(plus(height, *row), BETWEEN);
         }
-        Area::at(
-            0,
-            0,
-            width.saturating_add(2 * MARGIN),
-            height.saturating_add(60),
-        )
+        Area::at(0, 0, plus(width, 2 * MARGIN), plus(height, 60))
     }
 
-    /// Draws the title, and the note after it.
-    fn draw_title(&self, text: &mut Text, width: u32)
-        ensures { DrawsTitle self.now.name self.now.note text.old text.new }
+    /// Appends the shapes above the cards. If an allocation fails, the text records it.
+    fn add_top(&self, text: &mut Text, all: Area)
+        ensures { AddsTop self.now text.old text.new }
     {
-        let name = self.name.as_slice();
-        let left = width_of(Face::Title, name).saturating_add(MARGIN + 160);
-        let room = width.saturating_sub(MARGIN).saturating_sub(left);
-        add_words(text, Label::start(Face::Title, "ink", MARGIN, 290), name);
-        let label = Label::start(Face::Note, "soft", left, 290).within(room);
-        add_words(text, label, self.note.as_slice());
+        match legend(text.alloc(), self.measured.layout.by_pages) {
+            Ok(legend) => self.add_titles(text, all, legend.as_slice()),
+            Err(_) => text.refuse(),
+        }
     }
 
-    /// Draws the legend.
-    fn add_legend(&self, text: &mut Text)
-        ensures { Draws text.old text.new }
+    /// Appends the shapes above the cards, with this legend. If an allocation fails, the text records it.
+    #[tactic(auto, using(crate::proofs::Heads::adds_if_failed))]
+    fn add_titles(&self, text: &mut Text, all: Area, legend: &[u8])
+        ensures { Adds text.old text.new (top_text self.now all legend.now) }
     {
-        let mut shapes = Shapes::new(text.alloc());
-        draw_legend(&mut shapes, self.measured.layout.by_pages);
-        text.draw(&shapes);
+        match self.top(text.alloc(), all, legend) {
+            Ok(shapes) => text.add(shapes.as_slice()),
+            Err(_) => text.refuse(),
+        }
+    }
+
+    /// Returns the shapes above the cards: the background, the titles, and this legend.
+    #[tactic(auto, unfolding(crate::specs::Cards::top_text))]
+    fn top(&self, alloc: Global, all: Area, legend: &[u8]) -> Result<Vec<u8>, AllocError>
+        ensures { IfOk result (λ shapes. shapes.items ≡ top_text self.now all legend.now) }
+    {
+        let mut shapes = Vec::new(alloc);
+        write_rect(&mut shapes, &Look::of("bg"), &all, 0)?;
+        self.write_titles(&mut shapes, all.w.saturating_sub(2 * MARGIN))?;
+        shapes.extend_from_slice(legend)?;
+        Ok(shapes)
+    }
+
+    /// Appends the title that is drawn, and the note below it.
+    #[tactic(auto, unfolding(crate::specs::Cards::titles_text))]
+    fn write_titles(&self, shapes: &mut Vec<u8>, room: u32) -> Result<(), AllocError>
+        ensures { OnOk result (shapes.new.items ≡ shapes.old.items ++ titles_text self.now room) }
+    {
+        Label::start(Face::Title, "ink", MARGIN, 290)
+            .within(room)
+            .write(shapes, self.name.as_slice())?;
+        Label::start(Face::Plain, "soft", MARGIN, 490)
+            .within(room)
+            .write(shapes, self.note.as_slice())
     }
 
     /// Adds a point: a line of the plan, and the heap after this line. Draws a card if the heap doesn't look as in the
@@ -186,7 +203,9 @@ impl Picture {
         text: &mut Text,
     ) -> Result<bool, AllocError>
         ensures next { OnOk result (self.new.next ≡ line.now.number + 1) }
-        ensures drawn { IfOk result (λ drawn. MatchBool drawn (DrawsCard text.old text.new) (text.new ≡ text.old)) }
+        ensures layout { self.new.layout ≡ self.old.layout }
+        ensures drawn { IfOk result
+            (λ drawn. MatchBool drawn (DrawsPoint self.old line.now frame.now text.old text.new) (text.new ≡ text.old)) }
     {
         self.next = line.number as usize + 1;
         self.gathering.add(line)?;
@@ -203,7 +222,7 @@ impl Picture {
     /// Draws a last card if there are lines after the last change, and appends the end of the file. The only error is
     /// an allocation failure.
     pub fn end(&self, text: &mut Text) -> Result<(), AllocError>
-        ensures { OnOk result (EndsFile text.old text.new) }
+        ensures { OnOk result (EndsFile self.now text.old text.new) }
     {
         self.draw_rest(text)?;
         text.add(b"</svg>\n");
@@ -212,13 +231,12 @@ impl Picture {
 
     /// Draws a last card if there are lines after the last change. The card repeats the last frame.
     fn draw_rest(&self, text: &mut Text) -> Result<(), AllocError>
-        ensures { OnOk result (Draws text.old text.new) }
+        ensures { OnOk result (Rests self.now text.old text.new) }
     {
         if self.gathering.captions.is_empty() {
             return Ok(());
         }
-        self.draw(&self.gathering.last, text)?;
-        Ok(())
+        self.draw(&self.gathering.last, text)
     }
 
     /// Returns the height of the row that contains the next card.
@@ -230,84 +248,37 @@ impl Picture {
     fn step(&mut self)
         ensures { self.new ≡ self.old }
     {
-        self.column = self.column.saturating_add(1);
+        self.column = plus(self.column, 1);
         if self.column >= self.measured.layout.columns {
-            self.y = sum(self.y, self.row_height(), BETWEEN);
+            self.y = plus(plus(self.y, self.row_height()), BETWEEN);
             self.column = 0;
             self.row = self.row.saturating_add(1);
         }
     }
 
     /// Returns the area of the next card.
-    fn card(&self) -> Area {
+    fn place(&self) -> Area {
         let width = self.measured.layout.card;
-        let beside = self.column.saturating_mul(width.saturating_add(BETWEEN));
-        Area::at(
-            MARGIN.saturating_add(beside),
-            self.y,
-            width,
-            self.row_height(),
-        )
+        let beside = times(self.column, plus(width, BETWEEN));
+        Area::at(plus(MARGIN, beside), self.y, width, self.row_height())
     }
 
     /// Draws a card with a frame.
     fn draw(&self, frame: &Frame, text: &mut Text) -> Result<(), AllocError>
-        ensures { OnOk result (DrawsCard text.old text.new) }
+        ensures { OnOk result (DrawsCard self.now frame.now text.old text.new) }
     {
-        let card = self.card();
-        let mut shapes = Shapes::new(text.alloc());
-        self.draw_card(frame, &mut shapes, card)?;
-        text.add_shape(&Shape::Rect(Look::of("card"), card, 60));
-        text.draw(&shapes);
-        Ok(())
-    }
-
-    /// Draws the contents of a card: its captions, page counts and bars of meshes, and the heap below them.
-    fn draw_card(&self, frame: &Frame, shapes: &mut Shapes, card: Area) -> Result<(), AllocError> {
-        draw_captions(shapes, &self.gathering, card.x, card.y)?;
-        draw_counts(shapes, &frame.counts, card);
-        let lines = self.gathering.height();
-        let bars = sum(card.y, lines.saturating_mul(LINE), 120);
-        draw_meshes(shapes, frame, card.x, bars, card.w);
-        let above = above(lines, narrow(frame.meshes.len()));
-        let layout = &self.measured.layout;
         let scene = Scene {
-            layout,
+            layout: &self.measured.layout,
             now: frame,
-            before: self.before(),
-            x: card.x,
-            top: sum(card.y, above, layout.heading()),
+            before: if self.gathering.begun {
+                &self.gathering.last
+            } else {
+                frame
+            },
         };
-        if !layout.by_pages {
-            return draw_groups(shapes, &scene);
-        }
-        draw_pages(shapes, &scene)?;
-        draw_arrows(shapes, &scene);
+        let mut card = Vec::new(text.alloc());
+        write_card(&mut card, &self.gathering, scene, self.place())?;
+        text.add(card.as_slice());
         Ok(())
     }
-
-    /// Returns the frame that was drawn last, or `None` if no frame has been drawn.
-    fn before(&self) -> Option<&Frame> {
-        if self.gathering.begun {
-            Some(&self.gathering.last)
-        } else {
-            None
-        }
-    }
-}
-
-/// Draws the counts of a heap in the upper right corner of a card.
-fn draw_counts(shapes: &mut Shapes, counts: &Counts, card: Area) {
-    let right = card.x.saturating_add(card.w).saturating_sub(120);
-    let line = card.y.saturating_add(200);
-    let (face, ink) = match counts.saved {
-        0 => (Face::Note, "soft"),
-        _ => (Face::Strong, "green"),
-    };
-    let label = Label::end(face, ink, right, line);
-    label.say(
-        shapes,
-        "# − # = # saved",
-        &[counts.mapped, counts.taken, counts.saved],
-    );
 }

@@ -1,134 +1,172 @@
 //! Drawing the lines above a frame.
+ghost use Rattle.std.specs.Prelude.{◌≡◌, ◌++◌, IfOk, OnOk};
+ghost use Rattle.draw_picture.specs.Captions.{caption_text, captions_text, each_text, hidden_text, is_of_mesher, is_refusal, is_step, number_text, pill_text, told, tone_of};
+
 use crate::gathering::{Caption, Gathering};
+use crate::layout::PAD;
 use crate::lettering::{Face, Label, width_of};
-use draw_svg::{Area, Look, Shapes, words_of};
+use crate::numbers::{narrow, plus, times};
+use draw_svg::{Area, Look, end_group, words_of, write_group, write_rect};
 use std::alloc::AllocError;
 
 /// Returns the style rule of an answer: of a line that was blocked, of a line that was not done because of a refusal,
 /// an ended script or a full journal, of something that the mesher did, or of a line that was done.
-fn tone_of(answer: &[u8]) -> &'static str {
+fn tone_of(answer: &[u8]) -> &'static str
+    ensures { result.now ≡ tone_of answer.now }
+{
     if answer.starts_with(b"blocked") {
         "pb"
-    } else if begins_with_any(answer, &REFUSALS) {
+    } else if is_refusal(answer) {
         "pr"
-    } else if is_step(answer) || begins_with_any(answer, &MESHES) {
+    } else if is_of_mesher(answer) {
         "pm"
     } else {
         "pd"
     }
 }
 
-/// The first words of answers to lines that were not done.
-static REFUSALS: [&str; 3] = ["refused", "over", "history full"];
-
-/// The first words of answers that report what the mesher did, other than steps.
-static MESHES: [&str; 4] = ["left ", "meshed ", "swept ", "found "];
-
-/// The first words of answers to steps.
-static STEPS: [&str; 5] = ["protect ", "copy ", "remap ", "unprotect ", "release "];
-
-/// Whether an answer begins with one of these words.
-fn begins_with_any(answer: &[u8], words: &[&str]) -> bool {
-    for word in words {
-        if answer.starts_with(word.as_bytes()) {
-            return true;
-        }
-    }
-    false
+/// Whether an answer is that to a line that was not done.
+fn is_refusal(answer: &[u8]) -> bool
+    ensures { result ≡ is_refusal answer.now }
+{
+    answer.starts_with(b"refused")
+        || answer.starts_with(b"over")
+        || answer.starts_with(b"history full")
 }
 
 /// Whether an answer is that of a step.
-pub fn is_step(answer: &[u8]) -> bool {
-    begins_with_any(answer, &STEPS)
+pub fn is_step(answer: &[u8]) -> bool
+    ensures { result ≡ is_step answer.now }
+{
+    answer.starts_with(b"protect ")
+        || answer.starts_with(b"copy ")
+        || answer.starts_with(b"remap ")
+        || answer.starts_with(b"unprotect ")
+        || answer.starts_with(b"release ")
+}
+
+/// Whether an answer reports what the mesher did.
+fn is_of_mesher(answer: &[u8]) -> bool
+    ensures { result ≡ is_of_mesher answer.now }
+{
+    is_step(answer)
+        || answer.starts_with(b"left ")
+        || answer.starts_with(b"meshed ")
+        || answer.starts_with(b"swept ")
+        || answer.starts_with(b"found ")
 }
 
 /// The distance from one caption to the next.
-pub const LINE: u32 = 190;
+pub const LINE: u32 = 200;
 
-/// The left side of the words of captions, from a card's left side.
-pub const INDENT: u32 = 620;
+/// The left side of the words of captions.
+const INDENT: u32 = 620;
 
 /// The gap between words and answer.
 const SPACE: u32 = 120;
 
 /// The gap between an answer and the sides of its pill.
-const PAD: u32 = 70;
-
-/// The width that is reserved for the page counts next to the captions.
-const BESIDE: u32 = 1_800;
+const INSIDE: u32 = 70;
 
 /// Returns the width of a card that a caption needs. The only error is an allocation failure.
 pub fn caption_width(caption: &Caption) -> Result<u32, AllocError> {
-    let words = width_of(Face::Line, told(caption)?.as_slice());
-    let answer = width_of(Face::Pill, caption.answer.as_slice());
-    Ok(
-        words
-            .saturating_add(answer)
-            .saturating_add(INDENT + SPACE + 2 * PAD + BESIDE),
-    )
+    let words = width_of(Face::Plain, told(caption)?.as_slice());
+    let answer = width_of(Face::Plain, caption.answer.as_slice());
+    Ok(plus(plus(words, answer), INDENT + SPACE + 2 * INSIDE + 120))
 }
 
 /// Returns the words of a caption. If the caption represents several lines, their number is appended.
-fn told(caption: &Caption) -> Result<Vec<u8>, AllocError> {
-    let times = if caption.times > 1 { " ×#" } else { "" };
+fn told(caption: &Caption) -> Result<Vec<u8>, AllocError>
+    ensures { IfOk result (λ words. words.items ≡ told caption.now) }
+{
     let words = caption.words.as_slice();
-    words_of(*caption.words.allocator(), words, times, &[caption.times])
+    let alloc = *caption.words.allocator();
+    if caption.times > 1 {
+        words_of(alloc, words, " x#", &[caption.times])
+    } else {
+        words_of(alloc, words, "", &[])
+    }
 }
 
-/// Draws the captions of a frame into the card with the upper left corner (`x`, `y`).
-pub fn draw_captions(
-    shapes: &mut Shapes,
-    gathering: &Gathering,
-    x: u32,
-    y: u32,
-) -> Result<(), AllocError> {
-    let count = gathering.captions.len();
-    let mut top = y;
-    for (index, caption) in gathering.captions.iter().enumerate() {
-        if index.saturating_add(1) == count && gathering.hidden > 0 {
-            let (left, line) = (x.saturating_add(INDENT), top.saturating_add(200));
-            let label = Label::start(Face::Note, "soft", left, line);
-            label.say(shapes, ".. and # more lines", &[gathering.hidden]);
-            top = top.saturating_add(LINE);
-        }
-        draw_caption(shapes, caption, x, top)?;
-        top = top.saturating_add(LINE);
+/// Appends the captions of a card, and below them the number of lines that are left out before the last one.
+#[tactic(auto, unfolding(crate::specs::Captions::captions_text))]
+pub(crate) fn write_captions(text: &mut Vec<u8>, gathering: &Gathering) -> Result<(), AllocError>
+    ensures { OnOk result
+        (text.new.items ≡ text.old.items ++ captions_text gathering.now.captions.items gathering.now.hidden) }
+{
+    let captions = gathering.captions.as_slice();
+    write_each(text, captions)?;
+    write_hidden(text, gathering.hidden, narrow(captions.len()))
+}
+
+/// Appends captions, one below the other.
+fn write_each(text: &mut Vec<u8>, captions: &[Caption]) -> Result<(), AllocError>
+    ensures { OnOk result (text.new.items ≡ text.old.items ++ each_text 0 captions.now) }
+{
+    let mut row = 0u32;
+    let mut rest = captions;
+    while let [caption, behind @ ..] = rest {
+        write_caption(text, caption, row)?;
+        row = plus(row, 1);
+        rest = behind;
     }
     Ok(())
 }
 
-/// Draws a caption: the numbers of its lines, its words and its answer.
-fn draw_caption(shapes: &mut Shapes, caption: &Caption, x: u32, y: u32) -> Result<(), AllocError> {
-    let line = y.saturating_add(200);
-    draw_line_number(shapes, caption, x.saturating_add(INDENT - 100), line);
+/// Appends the number of lines that are left out before the last one, if there are any.
+#[tactic(auto, unfolding(crate::specs::Captions::hidden_text))]
+fn write_hidden(text: &mut Vec<u8>, lines: u32, row: u32) -> Result<(), AllocError>
+    ensures { OnOk result (text.new.items ≡ text.old.items ++ hidden_text lines row) }
+{
+    if lines == 0 {
+        return Ok(());
+    }
+    let line = plus(200, times(row, LINE));
+    Label::start(Face::Plain, "soft", INDENT, line).say(
+        text,
+        ".. and # more lines before the last",
+        &[lines],
+    )
+}
+
+/// Appends a caption: the numbers of its lines, its words and its answer.
+#[tactic(auto, unfolding(crate::specs::Captions::caption_text))]
+fn write_caption(text: &mut Vec<u8>, caption: &Caption, row: u32) -> Result<(), AllocError>
+    ensures { OnOk result (text.new.items ≡ text.old.items ++ caption_text row caption.now) }
+{
+    write_group(text, 0, times(row, LINE))?;
+    write_number(text, caption)?;
     let words = told(caption)?;
-    let left = x.saturating_add(INDENT);
-    let after = left
-        .saturating_add(width_of(Face::Line, words.as_slice()))
-        .saturating_add(SPACE);
-    Label::start(Face::Line, "ink", left, line).draw(shapes, words);
-    draw_pill(shapes, caption, after, y);
-    Ok(())
+    Label::start(Face::Plain, "ink", INDENT, 200).write(text, words.as_slice())?;
+    let left = plus(INDENT + SPACE, width_of(Face::Plain, words.as_slice()));
+    write_pill(text, caption.answer.as_slice(), left)?;
+    end_group(text)
 }
 
-/// Draws the number of a caption's line, or the numbers of its first and last line. The text ends at `x`.
-fn draw_line_number(shapes: &mut Shapes, caption: &Caption, x: u32, y: u32) {
-    let words = if caption.to == caption.from {
-        "#"
+/// Appends the number of a caption's line, or the numbers of its first and last line.
+#[tactic(auto, unfolding(crate::specs::Captions::number_text))]
+fn write_number(text: &mut Vec<u8>, caption: &Caption) -> Result<(), AllocError>
+    ensures { OnOk result (text.new.items ≡ text.old.items ++ number_text caption.now) }
+{
+    let label = Label::end(Face::Plain, "soft", INDENT - 100, 200).within(INDENT - PAD - 100);
+    if caption.to == caption.from {
+        label.say(text, "#", &[caption.to])
     } else {
-        "#–#"
-    };
-    let label = Label::end(Face::Number, "soft", x, y).within(INDENT - 160);
-    label.say(shapes, words, &[caption.from, caption.to]);
+        label.say(text, "#-#", &[caption.from, caption.to])
+    }
 }
 
-/// Draws a caption's answer.
-fn draw_pill(shapes: &mut Shapes, caption: &Caption, x: u32, y: u32) {
-    let answer = caption.answer.as_slice();
-    let width = width_of(Face::Pill, answer).saturating_add(2 * PAD);
-    let area = Area::at(x, y.saturating_add(80), width, 160);
-    shapes.rect(Look::of(tone_of(answer)), area, 80);
-    let (left, line) = (x.saturating_add(PAD), y.saturating_add(198));
-    let words = shapes.spell(answer, "", &[]);
-    Label::start(Face::Pill, "pt", left, line).draw(shapes, words);
+/// Appends an answer in its pill.
+#[tactic(auto, unfolding(crate::specs::Captions::pill_text))]
+fn write_pill(text: &mut Vec<u8>, answer: &[u8], x: u32) -> Result<(), AllocError>
+    ensures { OnOk result (text.new.items ≡ text.old.items ++ pill_text answer.now x) }
+{
+    let area = Area {
+        x,
+        y: 80,
+        w: plus(width_of(Face::Plain, answer), 2 * INSIDE),
+        h: 165,
+    };
+    write_rect(text, &Look::of(tone_of(answer)), &area, 80)?;
+    Label::start(Face::Plain, "pt", plus(x, INSIDE), 200).write(text, answer)
 }

@@ -6,11 +6,8 @@ use draw_svg::Text;
 /// The style rules: lettering, backgrounds with text colours and lines, the colours of groups with the lines of arrows,
 /// the colours of objects with those of their serials, and the states of objects' bytes.
 const RULES: &str = "\
-.fl,.fm,.fp{font-family:'DejaVu Sans Mono',Menlo,Consolas,monospace}
-.ft{font-size:170px}.fn,.fs{font-size:110px}.fl{font-size:115px}
-.fm,.fa,.fb{font-size:100px}.fp,.fo{font-size:105px}
-.fi,.fk{font-size:90px}.fq{font-size:75px}
-.ft,.fs,.fb,.fk,.fo{font-weight:bold}
+text{font-family:'DejaVu Sans Mono',Menlo,Consolas,monospace;font-size:110px}
+.ft{font-size:170px}.ft,.fs{font-weight:bold}
 .bg{fill:#f3f4f6}.card{fill:#fff;stroke:#c8cdd4;stroke-width:10}
 .ink{fill:#1d2430}.soft{fill:#58626d}.green{fill:#1b6e3a}
 .amber{fill:#9a5200}.red{fill:#a8201a}.blue{fill:#1558a6}

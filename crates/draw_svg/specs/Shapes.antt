@@ -27,9 +27,31 @@ abbrev pub also_text : List ℕ → List ℕ
 also_text [] = []
 also_text (letter ∷ letters) = codes " " ++ letter ∷ letters
 
+-- the style of a shape: the names of one or two style rules. The first one may have a number
+pub record Style : Type 0 where
+  pub name : List ℕ
+  pub number : Option ℕ
+  pub also : List ℕ
+
+-- the style of these names
+abbrev pub style_of : Look → Style
+style_of look = record { name = look.name.now; number = look.number; also = look.also.now }
+
+-- the style of one rule
+abbrev pub plain : List ℕ → Style
+plain name = record { name = name; number = None; also = [] }
+
+-- the style of one rule in a numbered family
+abbrev pub nth : List ℕ → ℕ → Style
+nth name number = record { name = name; number = Some number; also = [] }
+
+-- a style with this second rule
+abbrev pub joined : Style → List ℕ → Style
+joined style also = record { name = style.name; number = style.number; also = also }
+
 -- the attribute with the names of style rules
-abbrev pub look_text : Look → List ℕ
-look_text look = codes " class=\"" ++ look.name.now ++ number_text look.number ++ also_text look.also.now ++ codes "\""
+abbrev pub style_text : Style → List ℕ
+style_text style = codes " class=\"" ++ style.name ++ number_text style.number ++ also_text style.also ++ codes "\""
 
 -- the attribute for the radius of corners, which sharp corners don't have
 abbrev pub round_text : ℕ → List ℕ
@@ -62,28 +84,48 @@ abbrev pub area_text : Area → List ℕ
 area_text area =
     attribute_text (codes "x") area.x ++ attribute_text (codes "y") area.y ++ attribute_text (codes "width") area.w ++ attribute_text (codes "height") area.h
 
+-- the style and the place of words, with a fixed width or without
+pub record Place : Type 0 where
+  pub style : Style
+  pub anchor : Anchor
+  pub x : ℕ
+  pub y : ℕ
+  pub width : Option ℕ
+
+-- the style and the place of a label
+abbrev pub place_of : Label → Place
+place_of label = record { style = style_of label.look; anchor = label.anchor; x = label.x; y = label.y; width = label.width }
+
 -- the attributes of a label
-abbrev pub label_text : Label → List ℕ
-label_text label =
-    look_text label.look ++ attribute_text (codes "x") label.x ++ attribute_text (codes "y") label.y ++ anchor_text label.anchor ++ width_text label.width
+abbrev pub place_text : Place → List ℕ
+place_text place =
+    style_text place.style ++ attribute_text (codes "x") place.x ++ attribute_text (codes "y") place.y ++ anchor_text place.anchor ++ width_text place.width
 
 -- the text of a rectangle
-abbrev pub rect_text : Look → Area → ℕ → List ℕ
-rect_text look area round = codes "<rect" ++ look_text look ++ area_text area ++ round_text round ++ codes "/>\n"
+unfoldable pub rect_text : Style → Area → ℕ → List ℕ
+rect_text style area round = codes "<rect" ++ style_text style ++ area_text area ++ round_text round ++ codes "/>\n"
 
 -- the text of a path
-abbrev pub path_text : Look → List Point → List ℕ
-path_text look points = codes "<path" ++ look_text look ++ codes " d=\"" ++ flat_map point_text points ++ codes "\"/>\n"
+unfoldable pub path_text : Style → List Point → List ℕ
+path_text style points = codes "<path" ++ style_text style ++ codes " d=\"" ++ flat_map point_text points ++ codes "\"/>\n"
 
 -- the text of words at a place. The words are escaped
-abbrev pub words_text : Label → List ℕ → List ℕ
-words_text label words = codes "<text" ++ label_text label ++ codes ">" ++ escaped words ++ codes "</text>\n"
+unfoldable pub words_text : Place → List ℕ → List ℕ
+words_text place words = codes "<text" ++ place_text place ++ codes ">" ++ escaped words ++ codes "</text>\n"
+
+-- the start of a group of shapes, whose places are relative to this one
+unfoldable pub group_text : ℕ → ℕ → List ℕ
+group_text x y = codes "<g transform=\"translate(" ++ decimal x ++ codes "," ++ decimal y ++ codes ")\">\n"
+
+-- the end of a group of shapes
+unfoldable pub group_end : List ℕ
+group_end = codes "</g>\n"
 
 -- the text of a shape
 abbrev pub shape_text : Shape → List ℕ
-shape_text (Rect look area round) = rect_text look area round
-shape_text (Path look points) = path_text look points.items
-shape_text (Words label words) = words_text label words.items
+shape_text (Rect look area round) = rect_text (style_of look) area round
+shape_text (Path look points) = path_text (style_of look) points.items
+shape_text (Words label words) = words_text (place_of label) words.items
 
 -- the text of shapes, one after the other
 abbrev pub shapes_text : List Shape → List ℕ

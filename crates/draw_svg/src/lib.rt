@@ -12,3 +12,4 @@ pub use drawing::Shapes;
 pub use shapes::{Anchor, Area, Label, Look, Point, Shape, Way};
 pub use templates::words_of;
 pub use text::Text;
+pub use writer::{end_group, write_group, write_path, write_rect, write_words};

@@ -1,5 +1,6 @@
 //! The shapes of a picture, as data.
-ghost use Rattle.std.specs.Prelude.{◌≡◌, None};
+ghost use Rattle.std.specs.Prelude.{◌≡◌};
+ghost use Rattle.draw_svg.specs.Shapes.{joined, nth, plain, style_of};
 
 /// A rectangle.
 #[derive(Clone, Copy)]
@@ -16,7 +17,9 @@ pub struct Area {
 
 impl Area {
     /// Returns the area with this upper left corner, width and height.
-    pub fn at(x: u32, y: u32, w: u32, h: u32) -> Area {
+    pub fn at(x: u32, y: u32, w: u32, h: u32) -> Area
+        ensures { result ≡ record { x = x; y = y; w = w; h = h } }
+    {
         Area { x, y, w, h }
     }
 
@@ -63,8 +66,7 @@ pub struct Look {
 impl Look {
     /// Returns the style of one rule.
     pub fn of(name: &'static str) -> Look
-        ensures name { result.name.now ≡ name.now }
-        ensures number { result.number ≡ None }
+        ensures { style_of result ≡ plain name.now }
     {
         Look {
             name,
@@ -74,7 +76,9 @@ impl Look {
     }
 
     /// Returns the style of one rule in a numbered family of rules.
-    pub fn nth(name: &'static str, number: u32) -> Look {
+    pub fn nth(name: &'static str, number: u32) -> Look
+        ensures { style_of result ≡ nth name.now number }
+    {
         Look {
             name,
             number: Some(number),
@@ -83,7 +87,9 @@ impl Look {
     }
 
     /// Returns this style with `also` as its second rule.
-    pub fn with(self, also: &'static str) -> Look {
+    pub fn with(self, also: &'static str) -> Look
+        ensures { style_of result ≡ joined (style_of self) also.now }
+    {
         Look { also, ..self }
     }
 }

@@ -1,7 +1,7 @@
 //! The writer of shapes.
 ghost use Rattle.std.specs.Prelude.{◌≡◌, ◌++◌, OnOk, Option, decimal};
 ghost use Rattle.std.specs.List.{flat_map};
-ghost use Rattle.draw_svg.specs.Shapes.{also_text, anchor_text, area_text, attribute_text, label_text, look_text, number_text, path_text, point_text, rect_text, round_text, shape_text, shapes_text, way_text, width_text, words_text};
+ghost use Rattle.draw_svg.specs.Shapes.{also_text, anchor_text, area_text, attribute_text, group_end, group_text, number_text, path_text, place_of, place_text, point_text, rect_text, round_text, shape_text, shapes_text, style_of, style_text, way_text, width_text, words_text};
 ghost use Rattle.draw_svg.specs.Texts.{escaped, escaped_byte};
 
 use crate::shapes::{Anchor, Area, Label, Look, Point, Shape, Way};
@@ -75,7 +75,7 @@ fn write_second_rule(text: &mut Vec<u8>, also: &str) -> Result<(), AllocError>
 
 /// Appends the attribute ` class=".."` with the names of style rules.
 fn write_look(text: &mut Vec<u8>, look: &Look) -> Result<(), AllocError>
-    ensures { OnOk result (text.new.items ≡ text.old.items ++ look_text look.now) }
+    ensures { OnOk result (text.new.items ≡ text.old.items ++ style_text (style_of look.now)) }
 {
     text.extend_from_slice(b" class=\"")?;
     text.extend_from_slice(look.name.as_bytes())?;
@@ -164,7 +164,7 @@ fn write_width(text: &mut Vec<u8>, width: Option<u32>) -> Result<(), AllocError>
 
 /// Appends the attributes of a label.
 fn write_label(text: &mut Vec<u8>, label: &Label) -> Result<(), AllocError>
-    ensures { OnOk result (text.new.items ≡ text.old.items ++ label_text label.now) }
+    ensures { OnOk result (text.new.items ≡ text.old.items ++ place_text (place_of label.now)) }
 {
     write_look(text, &label.look)?;
     write_attribute(text, "x", label.x)?;
@@ -194,9 +194,10 @@ pub(crate) fn write_shape(text: &mut Vec<u8>, shape: &Shape) -> Result<(), Alloc
     }
 }
 
-/// Appends a rectangle.
-fn write_rect(text: &mut Vec<u8>, look: &Look, area: &Area, round: u32) -> Result<(), AllocError>
-    ensures { OnOk result (text.new.items ≡ text.old.items ++ rect_text look.now area.now round) }
+/// Appends a rectangle, whose corners have the radius `round`.
+#[tactic(auto, unfolding(crate::specs::Shapes::rect_text))]
+pub fn write_rect(text: &mut Vec<u8>, look: &Look, area: &Area, round: u32) -> Result<(), AllocError>
+    ensures { OnOk result (text.new.items ≡ text.old.items ++ rect_text (style_of look.now) area.now round) }
 {
     text.extend_from_slice(b"<rect")?;
     write_look(text, look)?;
@@ -206,8 +207,9 @@ fn write_rect(text: &mut Vec<u8>, look: &Look, area: &Area, round: u32) -> Resul
 }
 
 /// Appends a path.
-fn write_path(text: &mut Vec<u8>, look: &Look, points: &[Point]) -> Result<(), AllocError>
-    ensures { OnOk result (text.new.items ≡ text.old.items ++ path_text look.now points.now) }
+#[tactic(auto, unfolding(crate::specs::Shapes::path_text))]
+pub fn write_path(text: &mut Vec<u8>, look: &Look, points: &[Point]) -> Result<(), AllocError>
+    ensures { OnOk result (text.new.items ≡ text.old.items ++ path_text (style_of look.now) points.now) }
 {
     text.extend_from_slice(b"<path")?;
     write_look(text, look)?;
@@ -216,13 +218,34 @@ fn write_path(text: &mut Vec<u8>, look: &Look, points: &[Point]) -> Result<(), A
     Ok(text.extend_from_slice(b"\"/>\n")?)
 }
 
-/// Appends words.
-fn write_words(text: &mut Vec<u8>, label: &Label, words: &[u8]) -> Result<(), AllocError>
-    ensures { OnOk result (text.new.items ≡ text.old.items ++ words_text label.now words.now) }
+/// Appends words at a place. Any byte may be among them: they are escaped.
+#[tactic(auto, unfolding(crate::specs::Shapes::words_text))]
+pub fn write_words(text: &mut Vec<u8>, label: &Label, words: &[u8]) -> Result<(), AllocError>
+    ensures { OnOk result (text.new.items ≡ text.old.items ++ words_text (place_of label.now) words.now) }
 {
     text.extend_from_slice(b"<text")?;
     write_label(text, label)?;
     text.extend_from_slice(b">")?;
     write_escaped(text, words)?;
     Ok(text.extend_from_slice(b"</text>\n")?)
+}
+
+/// Appends the start of a group of shapes. The places of its shapes are relative to this place.
+#[tactic(auto, unfolding(crate::specs::Shapes::group_text))]
+pub fn write_group(text: &mut Vec<u8>, x: u32, y: u32) -> Result<(), AllocError>
+    ensures { OnOk result (text.new.items ≡ text.old.items ++ group_text x y) }
+{
+    text.extend_from_slice(b"<g transform=\"translate(")?;
+    write_number(text, x)?;
+    text.extend_from_slice(b",")?;
+    write_number(text, y)?;
+    Ok(text.extend_from_slice(b")\">\n")?)
+}
+
+/// Appends the end of a group of shapes.
+#[tactic(auto, unfolding(crate::specs::Shapes::group_end))]
+pub fn end_group(text: &mut Vec<u8>) -> Result<(), AllocError>
+    ensures { OnOk result (text.new.items ≡ text.old.items ++ group_end) }
+{
+    Ok(text.extend_from_slice(b"</g>\n")?)
 }

@@ -1,0 +1,7 @@
+use Rattle.std.proofs.Common.{◌≡◌, ◌++◌, take}
+use Rattle.std.specs.List.{flat_map}
+use Rattle.draw_picture.specs.Pages.{mapped_text}
+use Rattle.draw_picture.proofs.pages.write_all_mapped.Given as goal
+
+abbrev pub invariant-loop-lead : goal.invariant-loop-lead
+invariant-loop-lead l = l.text.items ≡ l.initial.text.items ++ flat_map (mapped_text l.scene.layout.now l.scene.now.now l.scene.before.now) (take l.lead-index l.lead-items)
