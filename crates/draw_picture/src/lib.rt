@@ -7,9 +7,9 @@
 //! a `Measure`, and the second time to the `Picture` that is made from the measure. The picture appends its text to a
 //! buffer.
 //!
-//! `layout` places the parts of a card, and `card` draws it: `pills` draws the lines above a frame, `mesh_bar` its running
-//! meshes, `pages` its pages with the help of `parts`, `objects` and `arrows`, and `occupancy` a map in place of them.
-//! `lettering` draws all words. `notes` writes a picture's title, and the note below it.
+//! `layout` places the parts of a card, and `card` draws it: `pills` draws the lines above a frame, `mesh_bar` its
+//! running meshes, `pages` its pages with the help of `parts`, `objects` and `arrows`, and `occupancy` a map in place
+//! of them. `lettering` draws all words. `notes` writes a picture's title, and the note below it.
 #![tactic(auto)]
 
 mod alike;

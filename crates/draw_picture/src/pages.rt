@@ -147,7 +147,8 @@ pub(crate) fn write_counts(
 /// Appends a span's heading, or an empty place if the frame doesn't have the span.
 #[tactic(auto, unfolding(crate::specs::Pages::span_text))]
 fn write_span(text: &mut Vec<u8>, scene: Scene<'_>, span: &Span) -> Result<(), AllocError>
-    ensures { OnOk result (text.new.items ≡ text.old.items ++ span_text scene.entry.layout.now scene.entry.now.now span.now) }
+    ensures { OnOk result
+        (text.new.items ≡ text.old.items ++ span_text scene.entry.layout.now scene.entry.now.now span.now) }
 {
     match member_at(scene.now, span.first) {
         None => write_empty(text, scene.layout, span),
@@ -297,7 +298,7 @@ fn write_objects(
     Ok(())
 }
 
-/// Appends the part of an object that is in the page at the index `place` of a span, if it is one of the span's objects.
+/// Appends the part of an object that is in the page at the index `place` of a span, if the object is in the span.
 #[tactic(auto, unfolding(crate::specs::Pages::object_text))]
 fn write_object(
     text: &mut Vec<u8>,

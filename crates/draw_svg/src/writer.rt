@@ -196,7 +196,12 @@ pub(crate) fn write_shape(text: &mut Vec<u8>, shape: &Shape) -> Result<(), Alloc
 
 /// Appends a rectangle, whose corners have the radius `round`.
 #[tactic(auto, unfolding(crate::specs::Shapes::rect_text))]
-pub fn write_rect(text: &mut Vec<u8>, look: &Look, area: &Area, round: u32) -> Result<(), AllocError>
+pub fn write_rect(
+    text: &mut Vec<u8>,
+    look: &Look,
+    area: &Area,
+    round: u32,
+) -> Result<(), AllocError>
     ensures { OnOk result (text.new.items ≡ text.old.items ++ rect_text (style_of look.now) area.now round) }
 {
     text.extend_from_slice(b"<rect")?;
