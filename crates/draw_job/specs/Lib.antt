@@ -1,7 +1,9 @@
 pub mod Captions
 pub mod Draws
+pub mod Forms
 pub mod Frames
 pub mod Notes
+pub mod Pages
 pub mod Painters
 pub mod Points
 pub mod Texts

@@ -9,7 +9,9 @@ use Rattle.text_devices.specs.declared.faults.ReplayError.{ReplayError}
 use Rattle.text_devices.specs.declared.faults.ReplayError.TheVariants.{Read, Write, Text, Memory}
 use Rattle.draw_picture.specs.declared.frame.Frame.{Frame}
 use Rattle.draw_text.specs.Points.{point_text}
+use Rattle.draw_job.specs.Forms.{formed}
 use Rattle.draw_job.specs.Points.{IsPoint}
+use Rattle.draw_job.specs.declared.forms.Form.{Form}
 
 -- this is the text of the point after line `n` of the plan
 pub record IsPointText (job : Job) (n : ℕ) (text : List ℕ) : Type 0 where
@@ -37,11 +39,11 @@ abbrev pub IsTextUpTo : Job → ℕ → ℕ → List ℕ → Type 0
 IsTextUpTo job from zero text = text ≡ []
 IsTextUpTo job from (suc n) text = HasParts (IsTextUpTo job from n) (IsLineText job from (suc n)) text
 
--- the text of the points after the lines from line `from` to line `to`, or to the end of the plan, was written
-pub record HasWrittenText (from to : ℕ) (job : Job) (written written' : Option (List ℕ)) : Type 0 where
+-- this holds for the text of the points after the lines from line `from` to line `to`, or to the end of the plan
+pub record HoldsForAll (from to : ℕ) (job : Job) (Holds : List ℕ → Type 0) : Type 0 where
   pub text : List ℕ
   pub is_text : IsTextUpTo job from (min to (length job.plan)) text
-  pub wrote : Appends written written' text
+  pub holds : Holds text
 
 -- this holds for the text of the points after the lines from line `from` to some line, which is not past line `to` or
 -- the end of the plan
@@ -52,6 +54,10 @@ pub record HoldsForSome (from to : ℕ) (job : Job) (Holds : List ℕ → Type 0
   pub is_text : IsTextUpTo job from lines text
   pub holds : Holds text
 
+-- the text of the points after the lines from line `from` to line `to`, or to the end of the plan, was written
+abbrev pub HasWrittenText : ℕ → ℕ → Job → Option (List ℕ) → Option (List ℕ) → Type 0
+HasWrittenText from to job written written' = HoldsForAll from to job (Appends written written')
+
 -- the text of some of these points was written, from the first one on
 abbrev pub HasWrittenSome : ℕ → ℕ → Job → Option (List ℕ) → Option (List ℕ) → Type 0
 HasWrittenSome from to job written written' = HoldsForSome from to job (Appends written written')
@@ -60,12 +66,14 @@ HasWrittenSome from to job written written' = HoldsForSome from to job (Appends 
 abbrev pub HasBegunText : ℕ → ℕ → Job → Option (List ℕ) → Option (List ℕ) → Type 0
 HasBegunText from to job written written' = HoldsForSome from to job (AppendsBeginning written written')
 
--- what was written for a job before this error. `Read` and `Text` aren't possible, because the job was read before
-abbrev pub HasWrittenUntil : ℕ → ℕ → Job → Option (List ℕ) → Option (List ℕ) → ReplayError → Type 0
-HasWrittenUntil from to job written written' Read = ⊥
-HasWrittenUntil from to job written written' Write = HasBegunText from to job written written'
-HasWrittenUntil from to job written written' (Text fault) = ⊥
-HasWrittenUntil from to job written written' Memory = HasWrittenSome from to job written written'
+-- what was written of a job's points in this form before this error: the text of some of the points if an allocation
+-- failed, and a beginning of such a text if the output failed. `Read` and `Text` aren't possible, because the job was
+-- read before
+abbrev pub HasWrittenUntil : Form → ℕ → ℕ → Job → Option (List ℕ) → Option (List ℕ) → ReplayError → Type 0
+HasWrittenUntil form from to job written written' Read = ⊥
+HasWrittenUntil form from to job written written' Write = HoldsForSome from to job (λ text. AppendsBeginning written written' (formed form text))
+HasWrittenUntil form from to job written written' (Text fault) = ⊥
+HasWrittenUntil form from to job written written' Memory = HoldsForSome from to job (λ text. Appends written written' (formed form text))
 
 -- a job was read, and the text of the points that are asked for was written. The first line of a plan has number 1
 abbrev pub HasDescribed : ℕ → ℕ → Option (List ℕ) → Option (List ℕ) → Option (List ℕ) → Option (List ℕ) → Type 0

@@ -1,15 +1,19 @@
-//! What the heap of a job looks like after each line of its plan: as one SVG file, or as text.
+//! What the heap of a job looks like after each line of its plan: as one SVG file, as text, or as an HTML page.
 //!
 //! An `AllocError` means that an allocation failed.
 #![tactic(auto)]
 
+mod forms;
+mod pages;
 mod painters;
 mod points;
 mod run;
 mod shown;
 mod texts;
+mod titles;
 
 pub use draw_picture::{Counts, Frame, Home, Mapping, Member, Object, RunningMesh};
+pub use pages::present;
 pub use run::{DrawOptions, draw};
 pub use shown::frame_of;
 pub use texts::describe;

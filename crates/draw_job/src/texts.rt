@@ -1,13 +1,16 @@
 //! The text of a job's plan: each line with its answer, and the heap after the line.
 ghost use Rattle.std.specs.Prelude.{◌≡◌, ◌+◌, ◌≤◌, ◌<◌, ◌++◌, List, ℕ, Err, false, true, length, IfErr, OnOk};
+ghost use Rattle.std.specs.Io.KnownBytes.{Appends};
 ghost use Rattle.mesh_text.specs.Turns.{StandsBehind};
-ghost use Rattle.draw_job.specs.Texts.{HasDescribed, HasNotDescribed, HasParts, HasWrittenText, HasWrittenUntil, IsLineText};
+ghost use Rattle.draw_job.specs.Forms.{formed};
+ghost use Rattle.draw_job.specs.Texts.{HasDescribed, HasNotDescribed, HasParts, HasWrittenUntil, HoldsForAll, IsLineText};
 
+use crate::forms::{Form, write_formed};
 use crate::points::{CHUNK_BYTES, lines_up_to, play_line};
 use draw_text::{Point, add_point};
 use mesh_text::{Job, Turns, read_job};
 use std::alloc::{AllocError, Global};
-use text_devices::{ReplayError, Sink, Source, write_lines};
+use text_devices::{ReplayError, Sink, Source};
 
 /// Reads a job file from the input, and writes each line of its plan from `from` to `to` with its answer and the heap
 /// after it, as text (`draw_text`).
@@ -38,23 +41,26 @@ pub fn describe<I: Source, O: Sink>(
 {
     let job = read_job(alloc, input)?;
     let first = (from as usize).max(1);
-    write_points(alloc, &job, first, to as usize, output)
+    write_points(alloc, &job, first, to as usize, Form::Plain, output)
 }
 
-/// Plays a job's plan up to line number `to`, and writes the text of the points after the lines `from` to `to`. The
-/// error is Memory if an allocation failed, and Write if the output failed.
-fn write_points<O: Sink>(
+/// Plays a job's plan up to line number `to`, and writes the text of the points after the lines `from` to `to` in a
+/// form. The error is Memory if an allocation failed, and Write if the output failed.
+pub(crate) fn write_points<O: Sink>(
     alloc: Global,
     job: &Job,
     from: usize,
     to: usize,
+    form: Form,
     output: &mut O,
 ) -> Result<(), ReplayError>
     requires few { to < 4294967296 }
     requires fresh { O.has_failed output.old ≡ false }
     ensures ok { OnOk result (O.has_failed output.new ≡ false) }
-    ensures written { OnOk result (HasWrittenText from to job.now (O.written output.old) (O.written output.new)) }
-    ensures stopped { IfErr result (HasWrittenUntil from to job.now (O.written output.old) (O.written output.new)) }
+    ensures written { OnOk result
+        (HoldsForAll from to job.now (λ text. Appends (O.written output.old) (O.written output.new) (formed form text))) }
+    ensures stopped { IfErr result
+        (HasWrittenUntil form from to job.now (O.written output.old) (O.written output.new)) }
     ensures write { result ≡ Err ReplayError.Write → O.has_failed output.new ≡ true }
     ensures memory { result ≡ Err ReplayError.Memory → O.has_failed output.new ≡ false }
 {
@@ -66,11 +72,11 @@ fn write_points<O: Sink>(
         describe_point(alloc, job, &mut turns, played, from, &mut text)?;
         played += 1;
         if text.len() >= CHUNK_BYTES {
-            write_lines(output, text.as_slice())?;
+            write_formed(alloc, text.as_slice(), form, output)?;
             text.clear();
         }
     }
-    write_lines(output, text.as_slice())
+    write_formed(alloc, text.as_slice(), form, output)
 }
 
 /// Plays the line of a plan at a place, counted from 0. Appends the text of the point after this line, unless the line

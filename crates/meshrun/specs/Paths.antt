@@ -2,7 +2,7 @@
 use Rattle.std.specs.Prelude.{ℕ, if◌then◌else◌, List, Option, Some, None, codes, option_map}
 use Rattle.std.specs.Str.{bytes_eq}
 use Rattle.run_command_line.specs.declared.command_line.Args.{Args}
-use Rattle.run_command_line.specs.declared.command_line.Args.TheVariants.{Replay, ReplayHistory, ReplayEcho, Threads, ThreadsPaced, ThreadsHistory, ThreadsReport, Draw, DrawText, Live, Explore, Check, Savings}
+use Rattle.run_command_line.specs.declared.command_line.Args.TheVariants.{Replay, ReplayHistory, ReplayEcho, Threads, ThreadsPaced, ThreadsHistory, ThreadsReport, Draw, DrawHtml, DrawText, Live, Explore, Check, Savings}
 use Rattle.run_command_line.specs.declared.explore_args.Told.{Told}
 use Rattle.run_command_line.specs.declared.explore_args.Told.TheVariants.{All, Outcome, Answer, Verdict}
 
@@ -21,6 +21,7 @@ file_of (ThreadsHistory path args) = file_at path.now
 file_of (ThreadsReport path args) = file_at path.now
 file_of (Draw path args) = file_at path.now
 file_of (DrawText path args) = file_at path.now
+file_of (DrawHtml path args) = file_at path.now
 file_of (Live args) = None
 file_of (Explore path args) = file_at path.now
 file_of (Check path args) = file_at path.now
@@ -44,6 +45,7 @@ expected_file_of (ThreadsHistory path args) = None
 expected_file_of (ThreadsReport path args) = None
 expected_file_of (Draw path args) = None
 expected_file_of (DrawText path args) = None
+expected_file_of (DrawHtml path args) = None
 expected_file_of (Live args) = None
 expected_file_of (Explore path args) = expected_path_of args.told
 expected_file_of (Check path args) = None

@@ -226,6 +226,7 @@ fn path_of<'a>(args: &Args<'a>) -> Option<&'a str>
         | Args::ThreadsReport(path, _)
         | Args::Draw(path, _)
         | Args::DrawText(path, _)
+        | Args::DrawHtml(path, _)
         | Args::Explore(path, _)
         | Args::Check(path, _)
         | Args::Savings(path, _) => path,

@@ -12,7 +12,7 @@ use Rattle.clap.specs.declared.parser.matches.Found.{Found}
 use Rattle.clap.proofs.OnLiterals.{clap_on_literals}
 use Rattle.clap.proofs.WalkLemmas.{first_value-rows}
 use Rattle.run_command_line.specs.Conditions.{ConditionTexts, no_condition}
-use Rattle.run_command_line.specs.CommandLine.{Asked, IsSaidOf, asked, asked_by, asked_in, asked_of, is_taken, kinds_of, check_of, draw_of, draw_text_of, explore_of, live_of, meshrun_app, conditions_asked, conditions_found, conditions_in, explains_asked, explains_found, explains_in, replay_echo_of, replay_history_of, replay_of, savings_of, tells_all, tells_answer, tells_outcome, tells_verdict, threads_history_of, threads_of, threads_report_of}
+use Rattle.run_command_line.specs.CommandLine.{Asked, IsSaidOf, asked, asked_by, asked_in, asked_of, is_taken, kinds_of, check_of, draw_html_of, draw_of, draw_text_of, explore_of, live_of, meshrun_app, conditions_asked, conditions_found, conditions_in, explains_asked, explains_found, explains_in, replay_echo_of, replay_history_of, replay_of, savings_of, tells_all, tells_answer, tells_outcome, tells_verdict, threads_history_of, threads_of, threads_report_of}
 
 -- the command line is one whose matches and faults `clap` tells
 pub is_told : is_simple_and_free meshrun_app ≡ true
@@ -140,13 +140,22 @@ unfolding clap_on_literals asked
 histories_stand_alone = (refl, refl)
 
 -- a picture is of the whole plan, in as many columns as fit, or of a part of it from a line to another, in the most
--- columns, or the heap after a line as text
+-- columns, or the heap after a line as text, or a page of a part
 pictures_are_asked :
     Asks (codes "draw a.job") (draw_of (codes "a.job") (record { from = 1; to = 1048576; columns = 0 }))
     × Asks (codes "draw --to=1048576 a.job --columns=64 --from 12") (draw_of (codes "a.job") (record { from = 12; to = 1048576; columns = 64 }))
     × Asks (codes "draw a.job --text --from 9 --to 9") (draw_text_of (codes "a.job") (record { from = 9; to = 9; columns = 0 }))
+    × Asks (codes "draw --html --to 9 a.job") (draw_html_of (codes "a.job") (record { from = 1; to = 9; columns = 0 }))
 unfolding clap_on_literals asked is_taken
-pictures_are_asked = ((refl, refl), (refl, refl), (refl, refl))
+pictures_are_asked = ((refl, refl), (refl, refl), (refl, refl), (refl, refl))
+
+-- a text and a page exclude each other, and neither has columns
+forms_stand_alone :
+    (asked (spoken (codes "draw a.job --text --html")) ≡ None)
+    × (asked (spoken (codes "draw a.job --columns 0 --text")) ≡ None)
+    × (asked (spoken (codes "draw a.job --html --columns 2")) ≡ None)
+unfolding clap_on_literals asked
+forms_stand_alone = (refl, refl, refl)
 
 -- no part of a plan ends before it begins
 parts_are_in_order : asked (spoken (codes "draw a.job --from 9 --to 8")) ≡ None

@@ -16,7 +16,7 @@ use Rattle.run_command_line.specs.Meshes.{pairs_of}
 use Rattle.run_command_line.specs.Conditions.{ConditionTexts, conditions_of, has_condition, no_condition}
 use Rattle.run_command_line.specs.declared.check_args.CheckArgs.{CheckArgs}
 use Rattle.run_command_line.specs.declared.command_line.Args.{Args}
-use Rattle.run_command_line.specs.declared.command_line.Args.TheVariants.{Check, Draw, DrawText, Explore, Live, Replay, ReplayEcho, ReplayHistory, Savings, Threads, ThreadsHistory, ThreadsPaced, ThreadsReport}
+use Rattle.run_command_line.specs.declared.command_line.Args.TheVariants.{Check, Draw, DrawHtml, DrawText, Explore, Live, Replay, ReplayEcho, ReplayHistory, Savings, Threads, ThreadsHistory, ThreadsPaced, ThreadsReport}
 use Rattle.run_command_line.specs.declared.requested.Request.{Request}
 use Rattle.run_command_line.specs.declared.stop.Stop.{Stop}
 use Rattle.run_command_line.specs.declared.draw_args.DrawArgs.{DrawArgs}
@@ -77,11 +77,11 @@ threads_app = with_rule (with_rule (with_rule (with_rule (with_rule (with_rule (
     (required_number (codes "seed") 0 18446744073709551615)) (number_or (codes "meshers") 1 10 (codes "1")))
     (number_rule (codes "pace") 1 65536)) (flag_rule (codes "history"))) (flag_rule (codes "report"))) (flag_rule (codes "explain"))
 
--- `draw FILE [--from N] [--to N] [--columns N] [--text]`
+-- `draw FILE [--from N] [--to N] [--columns N | --text | --html]`
 abbrev pub draw_app : App
-draw_app = with_rule (with_rule (with_rule (with_rule (with_rule (new_app (codes "draw")) file_rule)
+draw_app = with_rule (with_rule (with_rule (with_rule (with_rule (with_rule (new_app (codes "draw")) file_rule)
     (number_or (codes "from") 1 1048576 (codes "1"))) (number_or (codes "to") 1 1048576 (codes "1048576")))
-    (number_or (codes "columns") 0 64 (codes "0"))) (flag_rule (codes "text"))
+    (number_rule (codes "columns") 0 64)) (flag_rule (codes "text"))) (flag_rule (codes "html"))
 
 -- `live [--pages P] [--history H] [--workers N]`
 abbrev pub live_app : App
@@ -202,7 +202,8 @@ pub record Compared : Type 0 where
 --   with the commands that are attempted at them and their answers
 -- - `threads_of`: a run of the scripts by threads; `threads_history_of`: the recorded history of the run;
 --   `threads_report_of`: the run, with a report on its threads and its heap
--- - `draw_of`: a picture of part of the plan; `draw_text_of`: the heap after each line of this part, as text
+-- - `draw_of`: a picture of part of the plan; `draw_text_of`: the heap after each line of this part, as text;
+--   `draw_html_of`: a page that steps through these heaps
 -- - `explore_of`: an exploration of the commands that the plan leaves
 -- - `live_of`: a session of these sizes
 -- - `check_of`: a judgement of the history; `savings_of`: what meshing saves for the history
@@ -215,6 +216,7 @@ pub data Asked : Type 0 where
   threads_report_of : Text → Numbers → Asked
   draw_of : Text → Shown → Asked
   draw_text_of : Text → Shown → Asked
+  draw_html_of : Text → Shown → Asked
   explore_of : Text → Explored → Asked
   live_of : SessionSizes → Asked
   check_of : Text → Checked → Asked
@@ -286,19 +288,30 @@ threads_in file rows =
 abbrev pub in_plan_order : Shown → Option Shown
 in_plan_order shown = if nat_le shown.from shown.to then Some shown else None
 
+-- the columns in the matches of `draw`, which are 0 if none are given
+abbrev pub columns_in : List Row → Option ℕ
+columns_in rows = option_map (λ given. unwrap_or given 0) (given_in (codes "columns") 0 64 rows)
+
 -- the part of a plan in the matches of `draw`
 abbrev pub shown_in : List Row → Option Shown
 shown_in rows =
     option_and_then (λ from. option_and_then (λ to. option_and_then (λ columns. in_plan_order (record { from = from; to = to; columns = columns }))
-    (number_in (codes "columns") 0 64 rows)) (number_in (codes "to") 1 1048576 rows)) (number_in (codes "from") 1 1048576 rows)
+    (columns_in rows)) (number_in (codes "to") 1 1048576 rows)) (number_in (codes "from") 1 1048576 rows)
 
--- what `draw` asks for: with `--text` the heap after each line as text, and otherwise a picture
-abbrev pub draw_by : Text → Shown → Bool → Asked
-draw_by file shown is_text = if is_text then draw_text_of file shown else draw_of file shown
+-- what `draw` asks for: by whether `--text`, `--html` and `--columns` are given. At most one of them may be
+abbrev pub draw_by : Text → Shown → Bool → Bool → Bool → Option Asked
+draw_by file shown false false columns = Some (draw_of file shown)
+draw_by file shown true false false = Some (draw_text_of file shown)
+draw_by file shown true false true = None
+draw_by file shown false true false = Some (draw_html_of file shown)
+draw_by file shown false true true = None
+draw_by file shown true true columns = None
 
 -- what `draw` asks for according to its matches
 abbrev pub draw_in : Text → List Row → Option Asked
-draw_in file rows = option_and_then (λ shown. option_map (draw_by file shown) (flag_in (codes "text") rows)) (shown_in rows)
+draw_in file rows =
+    option_and_then (λ shown. option_and_then (λ is_text. option_and_then (λ is_page. draw_by file shown is_text is_page (is_some (first_of (codes "columns") rows)))
+    (flag_in (codes "html") rows)) (flag_in (codes "text") rows)) (shown_in rows)
 
 -- the group that this text names. Its number is spelt as in any option, and is at most 65535
 abbrev pub group_of : Text → Option ℕ
@@ -554,6 +567,7 @@ asking conditions (ThreadsHistory path args) = threads_history_of path.now (numb
 asking conditions (ThreadsReport path args) = threads_report_of path.now (numbers_of args)
 asking conditions (Draw path args) = draw_of path.now (shown_of args)
 asking conditions (DrawText path args) = draw_text_of path.now (shown_of args)
+asking conditions (DrawHtml path args) = draw_html_of path.now (shown_of args)
 asking conditions (Explore path args) = explore_of path.now (explored_of conditions args)
 asking conditions (Live args) = live_of (sizes_of args)
 asking conditions (Check path args) = check_of path.now (checked_of args)

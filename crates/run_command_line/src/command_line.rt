@@ -50,6 +50,9 @@ pub enum Args<'a> {
     /// `draw FILE .. --text`: print the heap after each line of the plan of the job file at this path, from one line to
     /// another, as text.
     DrawText(&'a str, DrawArgs),
+    /// `draw FILE .. --html`: print an HTML page that steps through the plan of the job file at this path, from one
+    /// line to another.
+    DrawHtml(&'a str, DrawArgs),
     /// `live ..`: answer the lines of standard input, on a heap with these sizes.
     Live(LiveArgs),
     /// `explore FILE --mesh SRC:DST ..`: explore the commands that the plan of the job file at this path leaves, with

@@ -6,10 +6,11 @@ use crate::clap_command::{PROGRAM, subcommand_of};
 use crate::conditions::texts;
 use crate::mesh_texts::{first_unread, meshes};
 use crate::options::{
-    ALWAYS, CONDITION, DRAW, EXISTS, EXPLORE, MESH, NEVER, REPLAY, SAVINGS, SHOW, Subcommand,
-    THREADS,
+    ALWAYS, COLUMNS, CONDITION, DRAW, EXISTS, EXPLORE, HTML, MESH, NEVER, REPLAY, SAVINGS, SHOW,
+    Subcommand, TEXT, THREADS,
 };
 use crate::told::shown_answer;
+use crate::values::{has_value, is_given};
 use clap::error::ErrorKind;
 use clap::{ArgMatches, Command, Error};
 use std::alloc::{AllocError, Global};
@@ -17,6 +18,15 @@ use std::convert::AsStr;
 
 /// The error message if both flags of `replay` that replace the answers are given.
 const REPLAYED_TWICE: &str = "--history and --echo exclude each other";
+
+/// The error message if both flags of `draw` that replace the picture are given.
+const DRAWN_TWICE: &str = "--text and --html exclude each other";
+
+/// The error message if the columns of a picture are given for a text.
+const COLUMNS_OF_TEXT: &str = "--columns and --text exclude each other";
+
+/// The error message if the columns of a picture are given for a page.
+const COLUMNS_OF_PAGE: &str = "--columns and --html exclude each other";
 
 /// The error message if the first line to draw is behind the last.
 const BEYOND_LAST: &str = "--from is greater than --to";
@@ -48,8 +58,8 @@ pub(crate) fn program_name<'a, S: AsStr>(words: &'a [S]) -> &'a str {
     }
 }
 
-/// Returns the error for options of `replay`, `threads`, `explore` or `savings` that `clap` accepts, but the program
-/// doesn't. The only error of the call itself is an allocation failure.
+/// Returns the error for options of `replay`, `threads`, `draw`, `explore` or `savings` that `clap` accepts, but the
+/// program doesn't. The only error of the call itself is an allocation failure.
 pub(crate) fn unread<'a>(
     alloc: Global,
     program: &str,
@@ -60,7 +70,7 @@ pub(crate) fn unread<'a>(
     match matches.subcommand() {
         Some(("replay", _)) => replay_fault(alloc, program),
         Some(("threads", _)) => threads_fault(alloc, program),
-        Some(("draw", _)) => draw_fault(alloc, program),
+        Some(("draw", matches)) => draw_fault(alloc, program, matches),
         Some(("explore", matches)) => explore_fault(alloc, program, matches),
         _ => savings_fault(alloc, program),
     }
@@ -74,10 +84,28 @@ fn replay_fault(alloc: Global, program: &str) -> Result<Error, AllocError>
 }
 
 /// Returns the error for options of `draw` that the program doesn't accept.
-fn draw_fault(alloc: Global, program: &str) -> Result<Error, AllocError>
+fn draw_fault<'a>(
+    alloc: Global,
+    program: &str,
+    matches: &ArgMatches<'a>,
+) -> Result<Error, AllocError>
     ensures { IfOk result (λ error. kind_of error ≡ ErrorKind.ValueValidation) }
 {
-    fault_of(alloc, program, &DRAW, BEYOND_LAST)
+    fault_of(alloc, program, &DRAW, draw_message(matches))
+}
+
+/// Returns the message about options of `draw` that the program doesn't accept. The reasons are options that exclude
+/// each other, and a first line behind the last.
+fn draw_message<'a>(matches: &ArgMatches<'a>) -> &'static str {
+    let is_text = is_given(matches, TEXT).unwrap_or(false);
+    let is_page = is_given(matches, HTML).unwrap_or(false);
+    let has_columns = has_value(matches, COLUMNS.name);
+    match (is_text, is_page) {
+        (true, true) => DRAWN_TWICE,
+        (true, false) if has_columns => COLUMNS_OF_TEXT,
+        (false, true) if has_columns => COLUMNS_OF_PAGE,
+        _ => BEYOND_LAST,
+    }
 }
 
 /// Returns the error for options of `threads` that the program doesn't accept.

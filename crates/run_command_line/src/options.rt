@@ -12,6 +12,9 @@ pub(crate) const ECHO: &str = "echo";
 /// The name of the flag that asks for text instead of a picture.
 pub(crate) const TEXT: &str = "text";
 
+/// The name of the flag that asks for a page instead of a picture.
+pub(crate) const HTML: &str = "html";
+
 /// The name of the flag that asks for a report behind the answers.
 pub(crate) const REPORT: &str = "report";
 
@@ -168,7 +171,7 @@ pub(crate) const COLUMNS: NumberRange = NumberRange {
 const COLUMNS_OPTION: NumberOption = NumberOption {
     range: COLUMNS,
     value: "N",
-    help: "How many columns the picture has, 1 to 64, or 0 for as many as fit",
+    help: "How many columns the picture has, 1 to 64, or 0 for as many as fit, as by default",
 };
 
 pub(crate) const PAGES: NumberRange = NumberRange {
@@ -410,25 +413,30 @@ pub(crate) const REPLAY: Subcommand = Subcommand {
     ],
 };
 
-/// Examples of `draw`: a picture, and the heap after one line as text.
+/// Examples of `draw`: a picture, a page, and the heap after one line as text.
 const DRAW_EXAMPLES: &str = "\
 Examples:
   meshrun draw jobs/examples/mesh.job > mesh.svg
+  meshrun draw jobs/examples/mesh.job --html > mesh.html
   meshrun draw jobs/examples/mesh.job --text --from 9 --to 9";
 
 /// The subcommand `draw`.
 pub(crate) const DRAW: Subcommand = Subcommand {
     name: "draw",
-    about: "Draw a job file's plan as an SVG picture and print it",
+    about: "Draw a job file's plan as an SVG picture and print it, or print it as text or as an HTML page",
     example: DRAW_EXAMPLES,
     arguments: &[
         Argument::File("The job file to draw; - is standard input"),
         Argument::Default(FROM_OPTION, "1"),
         Argument::Default(TO_OPTION, "1048576"),
-        Argument::Default(COLUMNS_OPTION, "0"),
+        Argument::Optional(COLUMNS_OPTION),
         Argument::Flag(
             TEXT,
             "Print each line of the plan with its answer and the heap after it as text instead of a picture",
+        ),
+        Argument::Flag(
+            HTML,
+            "Print an HTML page that steps through the same heaps with the arrow keys instead of a picture",
         ),
     ],
 };

@@ -1,6 +1,6 @@
 //! The values of options in the matches of `clap`.
-ghost use Rattle.std.specs.Prelude.{◌<◌, ◌^◌, ◌≡◌, ◌≤◌, IfSome};
-ghost use Rattle.clap.specs.Words.{found_of, rows_of};
+ghost use Rattle.std.specs.Prelude.{◌<◌, ◌^◌, ◌≡◌, ◌≤◌, IfSome, is_some};
+ghost use Rattle.clap.specs.Words.{first_of, found_of, rows_of};
 ghost use Rattle.run_command_line.specs.CommandLine.{flag_in, given_in, is_recorded_in, number_in, number_of};
 
 use crate::options::{NumberRange, RECORDED};
@@ -46,6 +46,13 @@ pub(crate) fn number_if_given<'a>(
         Some(_) => Some(Some(small_number(matches, range)?)),
         None => Some(None),
     }
+}
+
+/// Whether an option is given that has no default.
+pub(crate) fn has_value<'a>(matches: &ArgMatches<'a>, name: &str) -> bool
+    ensures { result ≡ is_some (first_of name.now (rows_of (found_of matches.now))) }
+{
+    matches.get_str(name).is_some()
 }
 
 /// Whether a recorded history is asked for. Returns `None` if the subcommand has no such flag.

@@ -7,12 +7,12 @@ use Rattle.mesh_text.specs.Recorded.{HasReplayedRecorded, HasStoppedRecorded}
 use Rattle.mesh_text.specs.Replay.{HasReplayed, HasStopped}
 use Rattle.run_command_line.specs.Conditions.{ConditionTexts, conditions_of}
 use Rattle.run_command_line.specs.declared.command_line.Args.{Args}
-use Rattle.run_command_line.specs.declared.command_line.Args.TheVariants.{Replay, ReplayHistory, ReplayEcho, Threads, ThreadsHistory, ThreadsPaced, ThreadsReport, Draw, DrawText, Live, Explore, Check, Savings}
+use Rattle.run_command_line.specs.declared.command_line.Args.TheVariants.{Replay, ReplayHistory, ReplayEcho, Threads, ThreadsHistory, ThreadsPaced, ThreadsReport, Draw, DrawHtml, DrawText, Live, Explore, Check, Savings}
 use Rattle.run_command_line.specs.declared.explore_args.ExploreArgs.{ExploreArgs}
 use Rattle.run_command_line.specs.declared.requested.Request.{Request}
 use Rattle.run_program.specs.Checks.{EndsCheck}
 use Rattle.run_program.specs.Criteria.{condition_texts}
-use Rattle.run_program.specs.Draws.{EndsDraw, EndsDrawText, EndsLive}
+use Rattle.run_program.specs.Draws.{EndsDraw, EndsDrawHtml, EndsDrawText, EndsLive}
 use Rattle.run_program.specs.Explores.{EndsExplore}
 use Rattle.run_program.specs.LiveSizes.{session_sizes}
 use Rattle.run_program.specs.Orders.{EndsOrder}
@@ -65,6 +65,7 @@ EndsAsked (ThreadsHistory path paced) conditions expected before after status = 
 EndsAsked (ThreadsReport path paced) conditions expected before after status = EndsThreads Report paced.args before after status
 EndsAsked (Draw path args) conditions expected before after status = EndsDraw path.now args before after status
 EndsAsked (DrawText path args) conditions expected before after status = EndsDrawText args before after status
+EndsAsked (DrawHtml path args) conditions expected before after status = EndsDrawHtml path.now args before after status
 EndsAsked (Live args) conditions expected before after status = EndsLive (session_sizes args) before after status
 EndsAsked (Explore path args) conditions expected before after status = EndsExploreBy args conditions expected before after status
 EndsAsked (Check path args) conditions expected before after status = EndsCheckBy args.is_ordered args.configurations before after status

@@ -1,6 +1,7 @@
 -- How a drawing and a live session end. A failure of the output is never reported as out of memory.
 use Rattle.std.specs.Prelude.{◌≡◌, ℕ, Bool, List, false}
 use Rattle.draw_job.specs.Draws.{HasDrawnJob, HasNotDrawn}
+use Rattle.draw_job.specs.Pages.{HasNotPresented, HasPresented}
 use Rattle.draw_job.specs.Texts.{HasDescribed, HasNotDescribed}
 use Rattle.run_command_line.specs.declared.draw_args.DrawArgs.{DrawArgs}
 use Rattle.run_live.specs.Runs.{HasLived, HasStopped}
@@ -28,6 +29,11 @@ EndsDraw name args before after status =
 -- the lines that the arguments ask for was written
 abbrev pub EndsDrawText : DrawArgs → Seen → Seen → ℕ → Type 0
 EndsDrawText args before after status = Ends (HasDescribed args.from args.to) (HasNotDescribed args.from args.to) before after status
+
+-- how a run ends that writes a page of the heaps after the lines of a plan. If the status is 0, a job was read, and the
+-- page of the lines that the arguments ask for was written, with the title for this name
+abbrev pub EndsDrawHtml : List ℕ → DrawArgs → Seen → Seen → ℕ → Type 0
+EndsDrawHtml name args before after status = Ends (HasPresented name args.from args.to) (HasNotPresented name args.from args.to) before after status
 
 -- how a live session ends
 abbrev pub EndsLive : Sizes → Seen → Seen → ℕ → Type 0

@@ -2,7 +2,7 @@
 ghost use Rattle.std.specs.Option.{option_copied};
 ghost use Rattle.run_command_line.specs.Conditions.{conditions_of};
 ghost use Rattle.run_program.specs.Dispatches.{EndsAs, EndsCheckBy, EndsEcho, EndsExploreBy, EndsJudgement, EndsRecorded, EndsReplay};
-ghost use Rattle.run_program.specs.Draws.{EndsDraw, EndsDrawText, EndsLive};
+ghost use Rattle.run_program.specs.Draws.{EndsDraw, EndsDrawHtml, EndsDrawText, EndsLive};
 ghost use Rattle.run_program.specs.LiveSizes.{session_sizes};
 ghost use Rattle.run_program.specs.Orders.{EndsOrder};
 ghost use Rattle.run_program.specs.Runs.{IsSound};
@@ -11,7 +11,7 @@ ghost use Rattle.run_program.specs.Threads.{EndsThreads};
 ghost use Rattle.run_program.specs.declared.printed.Printed.{Printed};
 
 use crate::check::check_run;
-use crate::draw::{draw_run, draw_text_run};
+use crate::draw::{draw_html_run, draw_run, draw_text_run};
 use crate::explore::explore_run;
 use crate::live::live_run;
 use crate::order::order_run;
@@ -75,6 +75,7 @@ pub fn run<
         }
         Args::Draw(path, args) => draw(alloc, path, args, devices),
         Args::DrawText(_, args) => draw_text(alloc, args, devices),
+        Args::DrawHtml(path, args) => draw_html(alloc, path, args, devices),
         Args::Explore(_, args) => {
             explore(alloc, args, &request.conditions, expected, devices, watch)
         }
@@ -184,6 +185,20 @@ fn draw_text<I: Source, O: Sink, E: Sink>(
     ensures { EndsDrawText args.now devices result.devices result.status }
 {
     let status = draw_text_run(alloc, args, &mut devices);
+    Ended { status, devices }
+}
+
+/// Writes a page that steps through the plan of a job, whose file has this path.
+fn draw_html<I: Source, O: Sink, E: Sink>(
+    alloc: Global,
+    path: &str,
+    args: &DrawArgs,
+    mut devices: Devices<I, O, E>,
+) -> Ended<I, O, E>
+    requires { IsSound devices }
+    ensures { EndsDrawHtml path.now args.now devices result.devices result.status }
+{
+    let status = draw_html_run(alloc, path, args, &mut devices);
     Ended { status, devices }
 }
 

@@ -39,7 +39,7 @@ pub use check_error::CheckError;
 pub use criteria::Criteria;
 pub use devices::Devices;
 pub use dispatch::{Ended, run};
-pub use draw::{draw_run, draw_text_run};
+pub use draw::{draw_html_run, draw_run, draw_text_run};
 pub use explain::{Found, explain_run, explain_savings_run};
 pub use explore::explore_run;
 pub use history_judge::Begun;

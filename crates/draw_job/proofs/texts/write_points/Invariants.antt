@@ -9,7 +9,7 @@ invariant-loop-played g l = record {
   few : l.played ≤ l.end;
   stands : StandsBehind l.job l.played l.turns;
   fresh : g.O.Sink.has_failed l.output ≡ false;
-  gathered : HasGathered l.from l.played l.job (g.O.Sink.written l.initial.output) (g.O.Sink.written l.output) l.text.items;
+  gathered : HasGathered l.form l.from l.played l.job (g.O.Sink.written l.initial.output) (g.O.Sink.written l.output) l.text.items;
 }
 
 abbrev pub decreases-loop-played : goal.decreases-loop-played
