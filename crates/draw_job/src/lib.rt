@@ -10,7 +10,6 @@ mod points;
 mod run;
 mod shown;
 mod texts;
-mod titles;
 
 pub use draw_picture::{Counts, Frame, Home, Mapping, Member, Object, RunningMesh};
 pub use pages::present;

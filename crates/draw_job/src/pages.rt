@@ -7,8 +7,8 @@ ghost use Rattle.draw_job.specs.Pages.{HasNotPresented, HasPresented, HasStopped
 
 use crate::forms::{Form, write_whole};
 use crate::texts::write_points;
-use crate::titles::title_of;
 use draw_html::{end_page, start_page};
+use draw_picture::title_of;
 use mesh_text::{Job, read_job};
 use std::alloc::Global;
 use text_devices::{ReplayError, Sink, Source};

@@ -187,7 +187,12 @@ fn caption_of(alloc: Global, line: &Line<'_>) -> Result<Caption, AllocError>
 
 /// Returns the bytes `first`, and then the first `most` bytes of a text, followed by two dots if the text is longer.
 /// Any byte of the text that is not printable ASCII becomes a question mark. The only error is an allocation failure.
-pub fn cut(alloc: Global, first: &[u8], words: &[u8], most: usize) -> Result<Vec<u8>, AllocError>
+pub(crate) fn cut(
+    alloc: Global,
+    first: &[u8],
+    words: &[u8],
+    most: usize,
+) -> Result<Vec<u8>, AllocError>
     ensures { IfOk result (λ all. all.items ≡ first.now ++ cut_text most words.now) }
 {
     let mut all = Vec::new(alloc);

@@ -36,4 +36,5 @@ pub use draw_svg::Text;
 pub use frame::{Counts, Frame, Home, Mapping, Member, Object, RunningMesh};
 pub use gathering::Line;
 pub use measure::Measure;
+pub use notes::title_of;
 pub use picture::{Drawn, Header, Picture};

@@ -1,11 +1,30 @@
-//! The note below the title of a picture.
+//! The titles for the name of a job file, and the note below them.
 ghost use Rattle.std.specs.Prelude.{◌≡◌, ◌++◌, ◌≤◌, IfOk};
-ghost use Rattle.draw_picture.specs.Notes.{header_text, lines_between, lines_text, note_text};
+ghost use Rattle.draw_picture.specs.Notes.{file_title, header_text, lines_between, lines_text, note_text, shown_title};
 ghost use Rattle.draw_svg.specs.Begins.{Begins};
 
+use crate::gathering::cut;
 use crate::picture::Header;
 use draw_svg::words_of;
 use std::alloc::{AllocError, Global};
+
+/// The greatest number of bytes that are shown of a job file's name.
+const MAX_NAME: usize = 64;
+
+/// Returns the title of a file that shows a job, for the name of the job file. A long name is cut, and any byte of it
+/// that isn't printable ASCII becomes a question mark. The only error is an allocation failure.
+pub fn title_of(alloc: Global, name: &[u8]) -> Result<Vec<u8>, AllocError>
+    ensures { IfOk result (λ title. title.items ≡ file_title name.now) }
+{
+    cut(alloc, b"Meshing in ", name, MAX_NAME)
+}
+
+/// Returns the name of a job file as it is shown: cut, and in printable ASCII. The only error is an allocation failure.
+pub(crate) fn shown_name(alloc: Global, name: &[u8]) -> Result<Vec<u8>, AllocError>
+    ensures { IfOk result (λ shown. shown.items ≡ shown_title name.now) }
+{
+    cut(alloc, b"", name, MAX_NAME)
+}
 
 /// Returns the numbers of the first and the last line from `first` on that come before line `next`, or `None` if there
 /// is no such line.

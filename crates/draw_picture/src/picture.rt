@@ -7,21 +7,18 @@ ghost use Rattle.draw_svg.specs.Texts.{Adds};
 
 use crate::card::write_card;
 use crate::frame::Frame;
-use crate::gathering::{Gathering, Line, cut};
+use crate::gathering::{Gathering, Line};
 use crate::layout::{BETWEEN, HEAD, MARGIN};
 use crate::legend::legend;
 use crate::lettering::{Face, Label};
 use crate::measure::{Measure, Measured};
-use crate::notes::{lines_between, note_of};
+use crate::notes::{lines_between, note_of, shown_name, title_of};
 use crate::numbers::{plus, times};
 use crate::pages::Scene;
 use crate::style::add_rules;
 use draw_svg::{Area, Look, Text, write_rect};
 use std::alloc::{AllocError, Global};
 use std::marker::Model;
-
-/// The greatest number of bytes that are shown of a title.
-const MAX_TITLE: usize = 64;
 
 /// The least width of a picture without its margin, which the legend needs.
 const LEAST_WIDTH: u32 = 8_000;
@@ -103,8 +100,8 @@ impl Picture {
     {
         let lines = lines_between(drawn.first, measure.next_line());
         let note = note_of(alloc, header, lines)?;
-        let title = cut(alloc, b"Meshing in ", drawn.title.as_bytes(), MAX_TITLE)?;
-        let name = cut(alloc, b"", drawn.title.as_bytes(), MAX_TITLE)?;
+        let title = title_of(alloc, drawn.title.as_bytes())?;
+        let name = shown_name(alloc, drawn.title.as_bytes())?;
         Ok(Picture {
             measured: measure.finish(drawn.columns)?,
             title,

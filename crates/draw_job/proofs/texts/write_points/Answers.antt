@@ -39,7 +39,16 @@ loop-played-preserved-then-len-ge-CHUNK_BYTES g c =
     }
 
 pub returns-in_err-write_formed-clause-stopped : goal.returns-in_err-write_formed-clause-stopped
-returns-in_err-write_formed-clause-stopped g c = ?
+returns-in_err-write_formed-clause-stopped g c =
+    let form = c.args.form in
+    let old = g.O.Sink.written c.args.output.now in
+    let mid = g.O.Sink.written c.loop-played.output in
+    let new = g.O.Sink.written c.write_formed.new.output in
+    let error = c.in_err-write_formed.field-0.0 in
+    let gathered = line_gathered form c.args.from c.loop-played.played c.args.job.now _ _ _ _ c.loop-played.invariant.gathered c.in_ok-describe_point.ensures.added in
+    ended_by (HasWrittenUntil form c.args.from c.args.to c.args.job.now old new) error c.from_residual-in_err-write_formed.result
+    c.from_residual-in_err-write_formed.ensures.1 (stopped_behind form c.args.from (c.loop-played.played + 1) c.args.job.now _ _ _ _ gathered c.args.to (search arith) error
+    (subst (λ (bytes : List ℕ). HasStoppedIn (formed form bytes) mid new error) c.as_slice.ensures.value c.in_err-write_formed.ensures.stopped))
 
 pub returns-clause-written : goal.returns-clause-written
 returns-clause-written g c =
