@@ -9,8 +9,8 @@ use arrayvec::ArrayVec;
 use mesh_class::class_of;
 use mesh_mutator::{Book, Command, Entry, Reply};
 use mesh_shared::{
-    Ended, Gate, Limits, MeshCounts, MeshPlan, Meshed, Pace, Ran, Worked, run_abandoned,
-    run_threads, run_within,
+    Ended, Gate, Limits, MeshCounts, MeshPlan, Meshed, Ran, Worked, run_abandoned, run_threads,
+    run_within,
 };
 use mesh_steps::{Heap, Report};
 use model_words::{Refusal, StepKind};
@@ -23,7 +23,7 @@ use text_job::Commands;
 
 /// A part of a script.
 #[derive(Clone, Copy)]
-enum Part {
+pub(crate) enum Part {
     // Makes an object of this length in each cell from the first up to, but not including, the second.
     Made(u8, u8, u32),
     // Frees the objects of these cells.
@@ -35,7 +35,7 @@ enum Part {
 }
 
 /// Returns the script that consists of these parts, in order.
-fn script_of(rt: &(impl Abort + AllocGlobal), parts: &[Part]) -> Commands {
+pub(crate) fn script_of(rt: &(impl Abort + AllocGlobal), parts: &[Part]) -> Commands {
     let mut script = Commands::new(rt.alloc());
     for part in parts {
         add_part(rt, &mut script, *part);
@@ -75,7 +75,7 @@ fn put(cell: u8, byte: u8) -> Command
 }
 
 /// Returns one script in the type that a run expects.
-fn alone<'a>(script: &'a Commands) -> [&'a [Command]; 1]
+pub(crate) fn alone<'a>(script: &'a Commands) -> [&'a [Command]; 1]
     ensures { All (λ script. All IsInRange script.now) result }
 {
     [script.as_slice()]
@@ -90,7 +90,7 @@ fn both<'a>(first: &'a Commands, second: &'a Commands) -> [&'a [Command]; 2]
 
 /// Returns a plan with this number of rounds, searchers and meshers. Each search makes one round of tries, and all its
 /// random words are 0.
-fn plan_of(rt: &impl AllocGlobal, rounds: u32, workers: u32, meshers: u32) -> MeshPlan
+pub(crate) fn plan_of(rt: &impl AllocGlobal, rounds: u32, workers: u32, meshers: u32) -> MeshPlan
     ensures searchers { result.workers ≡ workers }
     ensures meshers { result.meshers ≡ meshers }
 {
@@ -246,6 +246,7 @@ fn ran_within<R: Abort + AllocGlobal + Clock + Threads + Wait + Sync>(
     let plan = plan_of(rt, scale.rounds, scale.searchers, scale.meshers);
     let book = Book::open(rt.alloc(), scale.pages, scale.room).expect(rt, "memory");
     let ran = run_within(rt, rt.alloc(), book, scripts, &plan, limits, &gate);
+    check_that(rt, gate.went_well(), "all events occurred");
     ran.expect(rt, "a history")
 }
 
@@ -274,7 +275,7 @@ fn count_of(history: &[Entry], worker: u32) -> usize {
 }
 
 /// Returns the number of a history's entries that are refused as `NoPages`.
-fn no_pages_count(history: &[Entry]) -> usize {
+pub(crate) fn no_pages_count(history: &[Entry]) -> usize {
     history
         .iter()
         .filter(|entry| entry.reply == Reply::Refused(Refusal::NoPages))
@@ -742,7 +743,7 @@ fn counts_of(meshed: &Meshed) -> [u64; 7] {
 }
 
 /// Asserts that a run had one mesher, and that it counted this. Returns its rounds and its searches.
-fn check_counts(rt: &impl Abort, meshers: &[Meshed], wanted: [u64; 7]) -> (u32, u64) {
+pub(crate) fn check_counts(rt: &impl Abort, meshers: &[Meshed], wanted: [u64; 7]) -> (u32, u64) {
     check_count(rt, meshers.len(), 1);
     let meshed = meshers.get(0).expect(rt, "a mesher");
     assert_eq!(rt; counts_of(meshed), wanted);
@@ -778,15 +779,4 @@ fn a_worker_counts_its_blocked_attempts(rt: HostRuntime) {
     check_counts(&rt, ran.meshers.as_slice(), [2, 1, 1, 0, 0, 0, 0]);
     check_attempts(&rt, ran.workers.as_slice(), 0, 0, 0);
     check_attempts(&rt, ran.workers.as_slice(), 1, 10, 10);
-}
-
-#[test]
-fn paced_runs_end(rt: HostRuntime) {
-    let script = script_of(&rt, THREE_READS);
-    for rounds in 0..3 {
-        let scale = Scale { rounds, ..USUAL };
-        let pace = Pace::new(&rt, 1, 1);
-        let seen = ran_past(&rt, scale, &alone(&script), None, &pace);
-        check_entries(&rt, &seen, (3, 0));
-    }
 }
