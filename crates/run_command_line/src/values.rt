@@ -52,7 +52,10 @@ pub(crate) fn number_if_given<'a>(
 pub(crate) fn has_value<'a>(matches: &ArgMatches<'a>, name: &str) -> bool
     ensures { result ≡ is_some (first_of name.now (rows_of (found_of matches.now))) }
 {
-    matches.get_str(name).is_some()
+    match matches.get_str(name) {
+        Some(_) => true,
+        None => false,
+    }
 }
 
 /// Whether a recorded history is asked for. Returns `None` if the subcommand has no such flag.
