@@ -13,7 +13,7 @@ use Rattle.text_devices.specs.declared.faults.ReplayError.{ReplayError}
 use Rattle.text_devices.specs.declared.faults.ReplayError.TheVariants.{Read, Write, Text, Memory}
 use Rattle.draw_html.specs.Pages.{escaped_byte}
 use Rattle.draw_job.specs.Forms.{HasStoppedIn, formed}
-use Rattle.draw_job.specs.Texts.{HasParts, HasWrittenUntil, HoldsForAll, HoldsForSome, IsLineText, IsTextUpTo}
+use Rattle.draw_job.specs.Texts.{HasParts, HasWrittenUntil, HoldsForAll, IsLineText, IsTextUpTo}
 use Rattle.draw_job.specs.declared.forms.Form.{Form}
 use Rattle.draw_job.specs.declared.forms.Form.TheVariants.{Plain, Escaped}
 
@@ -135,7 +135,7 @@ module _ (form : Form) (from n : ℕ) (job : Job) (old mid new : Option (List �
 
 module _ {T : Type 0} where
   -- what holds of an error holds of a result that is this error
-  pub ended_by : (P : ReplayError → Type 0) (error : ReplayError) (r : Result T ReplayError) → IsErrAnd r (λ e. e ≡ error) → P error → IfErr r P
+  pub ended_by : {E : Type 0} (P : E → Type 0) (error : E) (r : Result T E) → IsErrAnd r (λ e. e ≡ error) → P error → IfErr r P
   ended_by P error (Ok x) told is = absurd told
   ended_by P error (Err e) told is = subst P (sym told) is
 

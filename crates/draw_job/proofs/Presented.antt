@@ -1,10 +1,11 @@
 -- The page of points, written.
-use Rattle.std.proofs.Common.{◌≡◌, ◌++◌, ℕ, List, [], Option, append-nil, arith, inl, inr, length, max, min, refl, subst, sym}
+use Rattle.std.proofs.Common.{◌≡◌, ℕ, List, [], Option, append-nil, arith, inl, inr, length, max, min, refl, subst, sym}
 use Rattle.std.proofs.KnownBytes.{Appends-kept, Appends-trans}
 use Rattle.std.specs.Io.KnownBytes.{Appends}
 use Rattle.draw_html.specs.Pages.{escaped, page_end, page_front, page_start}
 use Rattle.draw_job.proofs.Described.{beginning_behind}
 use Rattle.draw_job.specs.Forms.{HasStoppedIn}
+use Rattle.draw_job.specs.PlanEnds.{HasLine}
 use Rattle.draw_job.specs.Pages.{HasNotPresented, HasPresented, HasStoppedPage, HasWrittenPage}
 use Rattle.draw_job.specs.Texts.{HasWrittenUntil, HoldsForAll}
 use Rattle.draw_job.specs.declared.forms.Form.TheVariants.{Escaped}
@@ -87,12 +88,12 @@ module _ (title : List ℕ) (from to : ℕ) (job : Job) (old new : Option (List 
 
 module _ (name title : List ℕ) (from to first : ℕ) (left left' old new : Option (List ℕ)) (job : Job) (read : HasReadJob left left' job) (is_title : title ≡ file_title name)
     (is_first : first ≡ max from 1) where
-  -- a page was written whose job was read
-  pub presented : HasWrittenPage title first to job old new → HasPresented name from to left left' old new
-  presented page = record {
+  -- a page was written whose job was read, and whose plan has the first line that is asked for
+  pub presented : HasLine from job → HasWrittenPage title first to job old new → HasPresented name from to left left' old new
+  presented line page = record {
     job = job;
     read = read;
-    does = subst (λ n. HasWrittenPage (file_title name) n to job old new) is_first (subst (λ (t : List ℕ). HasWrittenPage t first to job old new) is_title page);
+    does = (line, subst (λ n. HasWrittenPage (file_title name) n to job old new) is_first (subst (λ (t : List ℕ). HasWrittenPage t first to job old new) is_title page));
   }
 
   stopped_as : (error : ReplayError) → HasStoppedPage (file_title name) (max from 1) to job old new error → HasNotPresented name from to left left' old new error

@@ -3,6 +3,7 @@ use Rattle.std.specs.Prelude.{◌≡◌, ℕ, List, Option, codes, length, max, 
 use Rattle.std.specs.Io.KnownBytes.{Appends, Keeps}
 use Rattle.model_jobs.specs.Jobs.{Job}
 use Rattle.draw_job.specs.Notes.{lines_shown, note_of_job}
+use Rattle.draw_job.specs.PlanEnds.{HasLine}
 use Rattle.draw_job.specs.Points.{next_shown}
 use Rattle.draw_job.specs.declared.run.Shown.{Shown}
 use Rattle.draw_picture.specs.Cards.{HasWords, IsHead}
@@ -48,10 +49,11 @@ pub record HasDrawn (name : List ℕ) (from to : ℕ) (job : Job) (written writt
   pub says : Begins (note_of_job job (lines_shown job from to)) note
   pub noted : HasWords note text
 
--- a job was read, and its picture was written
+-- a job was read whose plan has the first line that is asked for, and its picture was written
 pub record HasDrawnJob (name : List ℕ) (from to : ℕ) (left left' written written' : Option (List ℕ)) : Type 0 where
   pub job : Job
   pub read : HasReadJob left left' job
+  pub line : HasLine from job
   pub drawn : HasDrawn name from to job written written'
 
 -- both painters were shown each point that is asked for: from line `from` to line `to` or to the end of the plan,

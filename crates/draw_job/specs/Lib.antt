@@ -5,5 +5,6 @@ pub mod Frames
 pub mod Notes
 pub mod Pages
 pub mod Painters
+pub mod PlanEnds
 pub mod Points
 pub mod Texts

@@ -2,6 +2,7 @@
 use Rattle.std.specs.Prelude.{◌⊎◌, ℕ, List, Option, max}
 use Rattle.std.specs.Io.KnownBytes.{Appends, Keeps}
 use Rattle.draw_html.specs.Pages.{page_front, page_text}
+use Rattle.draw_job.specs.PlanEnds.{HasShown}
 use Rattle.draw_job.specs.Texts.{HoldsForAll, HoldsForSome}
 use Rattle.draw_picture.specs.Notes.{file_title}
 use Rattle.mesh_text.specs.Replay.{HasPlayed}
@@ -33,11 +34,11 @@ HasStoppedPage title from to job written written' Write = HasBegunPage title fro
 HasStoppedPage title from to job written written' (Text fault) = ⊥
 HasStoppedPage title from to job written written' Memory = Keeps written written' ⊎ HasWrittenFront title from to job written written'
 
--- a job was read, and the page of the points that are asked for was written, with the title for the name of the job's
--- file. The first line of a plan has number 1
+-- a job was read whose plan has the first line that is asked for, and the page of the points that are asked for was
+-- written, with the title for the name of the job's file. The first line of a plan has number 1
 abbrev pub HasPresented : List ℕ → ℕ → ℕ → Option (List ℕ) → Option (List ℕ) → Option (List ℕ) → Option (List ℕ) → Type 0
 HasPresented name from to left left' written written' =
-    HasPlayed left left' (λ job. HasWrittenPage (file_title name) (max from 1) to job written written')
+    HasShown from left left' (λ job. HasWrittenPage (file_title name) (max from 1) to job written written')
 
 -- what was read and written before this error. If the input failed, or if its text has this fault, nothing was written.
 -- If the output failed, a job was read, and a beginning of its page was written. If an allocation failed, either

@@ -10,6 +10,7 @@ use Rattle.text_devices.specs.declared.faults.ReplayError.TheVariants.{Read, Wri
 use Rattle.draw_picture.specs.declared.frame.Frame.{Frame}
 use Rattle.draw_text.specs.Points.{point_text}
 use Rattle.draw_job.specs.Forms.{formed}
+use Rattle.draw_job.specs.PlanEnds.{HasShown}
 use Rattle.draw_job.specs.Points.{IsPoint}
 use Rattle.draw_job.specs.declared.forms.Form.{Form}
 
@@ -75,9 +76,10 @@ HasWrittenUntil form from to job written written' Write = HoldsForSome from to j
 HasWrittenUntil form from to job written written' (Text fault) = ⊥
 HasWrittenUntil form from to job written written' Memory = HoldsForSome from to job (λ text. Appends written written' (formed form text))
 
--- a job was read, and the text of the points that are asked for was written. The first line of a plan has number 1
+-- a job was read whose plan has the first line that is asked for, and the text of the points that are asked for was
+-- written. The first line of a plan has number 1
 abbrev pub HasDescribed : ℕ → ℕ → Option (List ℕ) → Option (List ℕ) → Option (List ℕ) → Option (List ℕ) → Type 0
-HasDescribed from to left left' written written' = HasPlayed left left' (λ job. HasWrittenText (max from 1) to job written written')
+HasDescribed from to left left' written written' = HasShown from left left' (λ job. HasWrittenText (max from 1) to job written written')
 
 -- what was read and written before this error. If the input failed, or if its text has this fault, nothing was written.
 -- If the output failed, a job was read, and a beginning of the text of its points was written. If an allocation failed,

@@ -3,14 +3,17 @@
 //! An `AllocError` means that an allocation failed.
 #![tactic(auto)]
 
+mod draw_error;
 mod forms;
 mod pages;
 mod painters;
 mod points;
+mod readings;
 mod run;
 mod shown;
 mod texts;
 
+pub use draw_error::DrawError;
 pub use draw_picture::{Counts, Frame, Home, Mapping, Member, Object, RunningMesh};
 pub use pages::present;
 pub use run::{DrawOptions, draw};

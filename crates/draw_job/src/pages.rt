@@ -4,12 +4,15 @@ ghost use Rattle.std.specs.Io.KnownBytes.{Appends};
 ghost use Rattle.draw_html.specs.Pages.{page_end, page_start};
 ghost use Rattle.draw_job.specs.Forms.{HasStoppedIn};
 ghost use Rattle.draw_job.specs.Pages.{HasNotPresented, HasPresented, HasStoppedPage, HasWrittenPage};
+ghost use Rattle.draw_job.specs.PlanEnds.{StopsBefore};
 
+use crate::DrawError;
 use crate::forms::{Form, write_whole};
+use crate::readings::{first_line, read_job_from};
 use crate::texts::write_points;
 use draw_html::{end_page, start_page};
 use draw_picture::title_of;
-use mesh_text::{Job, read_job};
+use mesh_text::Job;
 use std::alloc::Global;
 use text_devices::{ReplayError, Sink, Source};
 
@@ -19,9 +22,9 @@ use text_devices::{ReplayError, Sink, Source};
 /// `name` is the name of the job file, which is in the page's title. Lines are counted from 1, and lines past the
 /// plan's end are ignored.
 ///
-/// The error is `Read` if the input failed, and `Text` if the input is no job file; nothing was written then. The error
-/// is `Memory` if an allocation failed; nothing or a page up to some point was written then. The error is `Write` if
-/// the output failed.
+/// The error is `Read` if the input failed, `Text` if the input is no job file, and `PlanEnds` if the plan ends before
+/// line `from`; nothing was written then. The error is `Memory` if an allocation failed; nothing or a page up to some
+/// point was written then. The error is `Write` if the output failed.
 pub fn present<I: Source, O: Sink>(
     alloc: Global,
     input: &mut I,
@@ -29,7 +32,7 @@ pub fn present<I: Source, O: Sink>(
     name: &str,
     from: u32,
     to: u32,
-) -> Result<(), ReplayError>
+) -> Result<(), DrawError>
     requires input { I.has_failed input.old ≡ false }
     requires output { O.has_failed output.old ≡ false }
     ensures ok { OnOk result ((I.has_failed input.new ≡ false) × (O.has_failed output.new ≡ false)) }
@@ -37,16 +40,17 @@ pub fn present<I: Source, O: Sink>(
         (HasPresented name.now from to (I.remaining input.old) (I.remaining input.new) (O.written output.old)
         (O.written output.new)) }
     ensures stopped { IfErr result
-        (HasNotPresented name.now from to (I.remaining input.old) (I.remaining input.new) (O.written output.old)
-        (O.written output.new)) }
-    ensures read { result ≡ Err ReplayError.Read → I.has_failed input.new ≡ true }
-    ensures write { result ≡ Err ReplayError.Write → O.has_failed output.new ≡ true }
-    ensures memory { result ≡ Err ReplayError.Memory → O.has_failed output.new ≡ false }
+        (StopsBefore from (HasNotPresented name.now from to) (I.remaining input.old) (I.remaining input.new)
+        (O.written output.old) (O.written output.new)) }
+    ensures read { result ≡ Err (DrawError.Replay ReplayError.Read) → I.has_failed input.new ≡ true }
+    ensures write { result ≡ Err (DrawError.Replay ReplayError.Write) → O.has_failed output.new ≡ true }
+    ensures memory { result ≡ Err (DrawError.Replay ReplayError.Memory) → O.has_failed output.new ≡ false }
 {
-    let job = read_job(alloc, input)?;
+    let job = read_job_from(alloc, input, from)?;
     let title = title_of(alloc, name.as_bytes())?;
-    let first = (from as usize).max(1);
-    write_page(alloc, &job, title.as_slice(), first, to as usize, output)
+    let first = first_line(from);
+    write_page(alloc, &job, title.as_slice(), first, to as usize, output)?;
+    Ok(())
 }
 
 /// Writes the page with this title of the points after the lines `from` to `to`. The error is Memory if an allocation

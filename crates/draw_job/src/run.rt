@@ -3,12 +3,15 @@ ghost use Rattle.std.specs.Prelude.{◌≡◌, ◌⊎◌, ◌≤◌, Err, false,
 ghost use Rattle.std.specs.Io.KnownBytes.{Keeps};
 ghost use Rattle.draw_job.specs.Draws.{AreShown, HasDrawn, HasDrawnJob, HasDrawnPicture, HasNotDrawn};
 ghost use Rattle.draw_job.specs.Painters.{next_measured};
+ghost use Rattle.draw_job.specs.PlanEnds.{StopsBefore};
 ghost use Rattle.draw_job.specs.Points.{next_shown};
 
+use crate::DrawError;
 use crate::painters::{Drawing, Measuring, Nowhere};
 use crate::points::{MAX_LINES, show_points, write_out};
+use crate::readings::read_job_from;
 use draw_picture::{Picture, Text};
-use mesh_text::{Job, read_job};
+use mesh_text::Job;
 use std::alloc::Global;
 use text_devices::{ReplayError, Sink, Source};
 
@@ -28,27 +31,28 @@ pub struct DrawOptions<'a> {
 /// Reads a job file from the input and draws the job as one SVG file.
 ///
 /// The plan is played twice: once to measure the picture, and once to draw and write it in pieces. The error is Read if
-/// the input failed, and Text if the input is no job file; nothing was written then. The error is Memory if an
-/// allocation failed, and Write if the output failed.
+/// the input failed, Text if the input is no job file, and PlanEnds if the plan ends before the first line to show;
+/// nothing was written then. The error is Memory if an allocation failed, and Write if the output failed.
 pub fn draw<I: Source, O: Sink>(
     alloc: Global,
     input: &mut I,
     output: &mut O,
     options: &DrawOptions<'_>,
-) -> Result<(), ReplayError>
+) -> Result<(), DrawError>
     requires input { I.has_failed input.old ≡ false }
     requires output { O.has_failed output.old ≡ false }
     ensures ok { OnOk result ((I.has_failed input.new ≡ false) × (O.has_failed output.new ≡ false)) }
     ensures none { IfErr result
-        (HasNotDrawn (I.remaining input.old) (I.remaining input.new) (O.written output.old) (O.written output.new)) }
+        (StopsBefore options.now.from HasNotDrawn (I.remaining input.old) (I.remaining input.new)
+        (O.written output.old) (O.written output.new)) }
     ensures drawn { OnOk result
         (HasDrawnJob options.now.title.now options.now.from options.now.to (I.remaining input.old)
         (I.remaining input.new) (O.written output.old) (O.written output.new)) }
-    ensures read { result ≡ Err ReplayError.Read → I.has_failed input.new ≡ true }
-    ensures write { result ≡ Err ReplayError.Write → O.has_failed output.new ≡ true }
-    ensures memory { result ≡ Err ReplayError.Memory → O.has_failed output.new ≡ false }
+    ensures read { result ≡ Err (DrawError.Replay ReplayError.Read) → I.has_failed input.new ≡ true }
+    ensures write { result ≡ Err (DrawError.Replay ReplayError.Write) → O.has_failed output.new ≡ true }
+    ensures memory { result ≡ Err (DrawError.Replay ReplayError.Memory) → O.has_failed output.new ≡ false }
 {
-    let job = read_job(alloc, input)?;
+    let job = read_job_from(alloc, input, options.from)?;
     let shown = paint(alloc, &job, output, options)?;
     all_shown(&job, options, &shown);
     Ok(())

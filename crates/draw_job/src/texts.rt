@@ -3,12 +3,15 @@ ghost use Rattle.std.specs.Prelude.{◌≡◌, ◌+◌, ◌≤◌, ◌<◌, ◌+
 ghost use Rattle.std.specs.Io.KnownBytes.{Appends};
 ghost use Rattle.mesh_text.specs.Turns.{StandsBehind};
 ghost use Rattle.draw_job.specs.Forms.{formed};
+ghost use Rattle.draw_job.specs.PlanEnds.{StopsBefore};
 ghost use Rattle.draw_job.specs.Texts.{HasDescribed, HasNotDescribed, HasParts, HasWrittenUntil, HoldsForAll, IsLineText};
 
+use crate::DrawError;
 use crate::forms::{Form, write_formed};
 use crate::points::{CHUNK_BYTES, lines_up_to, play_line};
+use crate::readings::{first_line, read_job_from};
 use draw_text::{Point, add_point};
-use mesh_text::{Job, Turns, read_job};
+use mesh_text::{Job, Turns};
 use std::alloc::{AllocError, Global};
 use text_devices::{ReplayError, Sink, Source};
 
@@ -17,15 +20,16 @@ use text_devices::{ReplayError, Sink, Source};
 ///
 /// Lines are counted from 1, and lines past the plan's end are ignored. Several whole points are written together.
 ///
-/// The error is `Read` if the input failed, and `Text` if the input is no job file; nothing was written then. The error
-/// is `Memory` if an allocation failed; only whole points were written then. The error is `Write` if the output failed.
+/// The error is `Read` if the input failed, `Text` if the input is no job file, and `PlanEnds` if the plan ends before
+/// line `from`; nothing was written then. The error is `Memory` if an allocation failed; only whole points were written
+/// then. The error is `Write` if the output failed.
 pub fn describe<I: Source, O: Sink>(
     alloc: Global,
     input: &mut I,
     output: &mut O,
     from: u32,
     to: u32,
-) -> Result<(), ReplayError>
+) -> Result<(), DrawError>
     requires input { I.has_failed input.old ≡ false }
     requires output { O.has_failed output.old ≡ false }
     ensures ok { OnOk result ((I.has_failed input.new ≡ false) × (O.has_failed output.new ≡ false)) }
@@ -33,15 +37,16 @@ pub fn describe<I: Source, O: Sink>(
         (HasDescribed from to (I.remaining input.old) (I.remaining input.new) (O.written output.old)
         (O.written output.new)) }
     ensures stopped { IfErr result
-        (HasNotDescribed from to (I.remaining input.old) (I.remaining input.new) (O.written output.old)
-        (O.written output.new)) }
-    ensures read { result ≡ Err ReplayError.Read → I.has_failed input.new ≡ true }
-    ensures write { result ≡ Err ReplayError.Write → O.has_failed output.new ≡ true }
-    ensures memory { result ≡ Err ReplayError.Memory → O.has_failed output.new ≡ false }
+        (StopsBefore from (HasNotDescribed from to) (I.remaining input.old) (I.remaining input.new)
+        (O.written output.old) (O.written output.new)) }
+    ensures read { result ≡ Err (DrawError.Replay ReplayError.Read) → I.has_failed input.new ≡ true }
+    ensures write { result ≡ Err (DrawError.Replay ReplayError.Write) → O.has_failed output.new ≡ true }
+    ensures memory { result ≡ Err (DrawError.Replay ReplayError.Memory) → O.has_failed output.new ≡ false }
 {
-    let job = read_job(alloc, input)?;
-    let first = (from as usize).max(1);
-    write_points(alloc, &job, first, to as usize, Form::Plain, output)
+    let job = read_job_from(alloc, input, from)?;
+    let first = first_line(from);
+    write_points(alloc, &job, first, to as usize, Form::Plain, output)?;
+    Ok(())
 }
 
 /// Plays a job's plan up to line number `to`, and writes the text of the points after the lines `from` to `to` in a

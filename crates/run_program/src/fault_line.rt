@@ -1,11 +1,13 @@
 //! The line that reports why a run stopped.
 ghost use Rattle.std.specs.Prelude.{◌≡◌, ◌+◌, ◌≤◌, [], ◌++◌, decimal, length};
 ghost use Rattle.model_jobs.specs.Texts.{ended};
+ghost use Rattle.run_program.specs.Draws.{draw_error_text, plan_ends_text};
 ghost use Rattle.run_program.specs.Runs.{error_text, fault_text};
 ghost use Rattle.run_program.specs.Threads.{threads_text};
 
 use crate::ThreadsError;
 use arrayvec::ArrayVec;
+use draw_job::DrawError;
 use itoa::Buffer;
 use mesh_text::TextFault;
 use text_devices::ReplayError;
@@ -41,6 +43,27 @@ pub(crate) fn threads_line_of(error: ThreadsError) -> Line
     }
 }
 
+/// The line of an error of a drawing, with a line end. `from` is the first line that was asked for.
+pub(crate) fn draw_line_of(error: DrawError, from: u32) -> Line
+    ensures { result.items ≡ ended (draw_error_text from error) }
+{
+    match error {
+        DrawError::Replay(error) => line_of(error),
+        DrawError::PlanEnds(lines) => plan_line(lines, from),
+    }
+}
+
+/// The line about a plan that has this number of lines, and ends before line `from`.
+fn plan_line(lines: u32, from: u32) -> Line
+    ensures { result.items ≡ ended (plan_ends_text from lines) }
+{
+    let mut line = Line::new();
+    add_number(&mut line, b"the plan ends at line ", lines);
+    add_number(&mut line, b", before --from ", from);
+    add(&mut line, b"\n");
+    line
+}
+
 /// A line of these bytes, with a line end.
 pub(crate) fn line_with(bytes: &[u8]) -> Line
     requires { length bytes.now ≤ 71 }
@@ -57,10 +80,8 @@ pub(crate) fn number_line(before: &[u8], number: u32, behind: &[u8]) -> Line
     requires { length before.now + length behind.now ≤ 61 }
     ensures { result.items ≡ ended (before.now ++ decimal number ++ behind.now) }
 {
-    let mut digits = Buffer::new();
     let mut line = Line::new();
-    add(&mut line, before);
-    add(&mut line, digits.format(number).as_bytes());
+    add_number(&mut line, before, number);
     add(&mut line, behind);
     add(&mut line, b"\n");
     line
@@ -91,6 +112,17 @@ fn add_fault(line: &mut Line, fault: TextFault)
     add(line, digits.format(fault.line).as_bytes());
     add(line, b": ");
     add(line, fault.kind.name().as_bytes());
+}
+
+/// Adds bytes and a number in decimal; there must be room for the longest number.
+fn add_number(line: &mut Line, before: &[u8], number: u32)
+    requires { length line.old.items + length before.now ≤ 62 }
+    ensures text { line.new.items ≡ line.old.items ++ before.now ++ decimal number }
+    ensures short { length line.new.items ≤ length line.old.items + length before.now + 10 }
+{
+    let mut digits = Buffer::new();
+    add(line, before);
+    add(line, digits.format(number).as_bytes());
 }
 
 /// Adds bytes; there must be room for them.

@@ -1,4 +1,4 @@
-use Rattle.std.proofs.Common.{◌+◌, List, ℕ, arith, rules, subst, sym}
+use Rattle.std.proofs.Common.{◌+◌, List, ℕ, arith, rules, subst}
 use Rattle.std.proofs.lemmas.Result.{on_ok_weaker}
 use Rattle.std.specs.Io.KnownBytes.{Appends}
 use Rattle.draw_job.specs.Forms.{HasStoppedIn, formed}
