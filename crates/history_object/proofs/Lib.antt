@@ -39,3 +39,12 @@ pub mod Offsets
 mod Overwritten
 pub mod Runs
 pub mod Stored
+pub mod Swapping
+pub mod PlaceLists
+pub mod Leading
+pub mod Covering
+pub mod Serving
+pub mod Eagerly
+pub mod Inside
+pub mod Expanded
+pub mod Apart

@@ -1,5 +1,6 @@
 -- What a judge tells of events by places is what the orders of the calls tell.
 use Rattle.std.proofs.Common.{◌≡◌, ◌↔◌, ℕ, suc, ◌<◌, true, false, List, [], ◌∷◌, Option, Some, None, length, replicate, slice_get, slice_index_or, slice_set, ap, subst, refl, sym, ◌∙◌, arith, inl, inr, zero}
+use Rattle.std.proofs.lemmas.Option.{slice_get_within}
 use Rattle.history_object.specs.declared.configuration.Configuration.{Configuration}
 use Rattle.history_object.specs.Carried.{AreBelow, IsKept, after_all, carry, going_on}
 use Rattle.history_object.specs.Orders.{CallBegins, CallEnds, NumberedEvent}
@@ -138,6 +139,12 @@ to_places effect calls begun taken numbers pending q i (n ∷ path) c x d are al
           ))
     ] refl e
 
+-- where no call stands, within the list, the place is free
+free_at : {C : Type 0} → (xs : List (Option C)) (p : ℕ) → call_at xs p ≡ None → p < length xs → slice_get xs p ≡ Some None
+free_at [] p none lt = absurd (omega (arith, lt))
+free_at (x ∷ xs) zero none lt = ap (λ o. Some o) none
+free_at (x ∷ xs) (suc p) none lt = free_at xs p none (omega (arith, lt))
+
 -- what passes by numbers passes by places
 passes_by_places : {S C : Type 0} → (effect : S → C → Option S) (calls : List C) (begun : ℕ) (taken : List (Option ℕ)) (numbers : List ℕ) (pending : List (Option C))
     (events : List NumberedEvent) (placed : List (Event C)) (c last : MarkedState S) (d : Configuration S) → ArePlaced calls begun taken events placed
@@ -150,8 +157,12 @@ passes_by_places effect calls begun taken numbers pending (CallEnds i ∷ events
 passes_by_places effect calls begun taken numbers pending (CallBegins ∷ events) (Ends p ∷ placed) c last d is are alike left = absurd is
 passes_by_places effect calls begun taken numbers pending (CallEnds i ∷ events) (Begins p call ∷ placed) c last d is are alike left = absurd is
 passes_by_places effect calls begun taken numbers pending (CallBegins ∷ events) (Begins p call ∷ placed) c last d is are alike left =
-    passes_by_places effect calls (suc begun) (slice_set taken p (Some begun)) (begun ∷ numbers) (slice_set pending p (Some call)) events placed c last d is.2
-    (taken_begun calls begun taken numbers pending p call is.0 is.1 are) (alike_begun begun taken c d p is.0 alike) left
+    let none : call_at taken p ≡ None = ap (λ o. found_call o) is.0 in
+    let within : p < length taken = slice_get_within taken p None is.0 in (
+      free_at pending p (are.called p ∙ ap (λ o. call_of calls o) none) (omega (arith, within, are.long)),
+      passes_by_places effect calls (suc begun) (slice_set taken p (Some begun)) (begun ∷ numbers) (slice_set pending p (Some call)) events placed c last d is.2
+          (taken_begun calls begun taken numbers pending p call is.0 is.1 are) (alike_begun begun taken c d p is.0 alike) left,
+    )
 passes_by_places effect calls begun taken numbers pending (CallEnds i ∷ events) (Ends p ∷ placed) c last d is are alike (next, (path, pends, leads, it), left) =
     let ends : call_at taken p ≡ Some i = ap (λ o. found_call o) is.0 in
     let on = to_places effect calls begun taken numbers pending p i path c next d are alike ends pends leads in (
@@ -174,7 +185,7 @@ passes_by_numbers effect calls begun taken numbers pending (CallBegins ∷ event
 passes_by_numbers effect calls begun taken numbers pending (CallEnds i ∷ events) (Begins p call ∷ placed) c d is are alike pass = absurd is
 passes_by_numbers effect calls begun taken numbers pending (CallBegins ∷ events) (Begins p call ∷ placed) c d is are alike pass =
     passes_by_numbers effect calls (suc begun) (slice_set taken p (Some begun)) (begun ∷ numbers) (slice_set pending p (Some call)) events placed c d is.2
-    (taken_begun calls begun taken numbers pending p call is.0 is.1 are) (alike_begun begun taken c d p is.0 alike) pass
+    (taken_begun calls begun taken numbers pending p call is.0 is.1 are) (alike_begun begun taken c d p is.0 alike) pass.1
 passes_by_numbers effect calls begun taken numbers pending (CallEnds i ∷ events) (Ends p ∷ placed) c d is are alike (next, ((path, reach), it), pass) =
     let ends : call_at taken p ≡ Some i = ap (λ o. found_call o) is.0 in
     let on = to_numbers effect calls begun taken numbers pending p i path c d next are alike ends reach.leads in

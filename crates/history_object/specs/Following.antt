@@ -1,11 +1,11 @@
 -- The state of a timed judge, and which calls it has followed.
-use Rattle.std.specs.Prelude.{◌≡◌, ◌≢◌, ◌↔◌, ℕ, suc, ◌<◌, ◌≤◌, List, [], ◌∷◌, Option, Some, None, length, map, slice_get, slice_set}
-use Rattle.history_object.specs.Carried.{HasMore, carry}
+use Rattle.std.specs.Prelude.{◌≡◌, ◌≢◌, ◌↔◌, ℕ, suc, Bool, ◌<◌, ◌≤◌, List, [], ◌∷◌, Option, Some, None, length, map, slice_get, slice_set}
 use Rattle.history_object.specs.Orders.{EndsBefore, HasEnded, NumberedEvent, begun_behind}
 use Rattle.history_object.specs.Placed.{ArePlaced, HavePassed, none_taken}
 use Rattle.history_object.specs.declared.refutation.Refutation.{Refutation}
+use Rattle.history_object.specs.Parts.{HasMoreMet}
 use Rattle.history_object.specs.Refuted.{IsRefuted}
-use Rattle.history_object.specs.Standings.{Begins, CanGoOn, Ends, Event, Standing, effect_at, first_standing, had_effect}
+use Rattle.history_object.specs.Standings.{Begins, CanGoOn, Ends, Event, Standing, first_standing}
 use Rattle.history_object.specs.TimedCalls.{Timed}
 use Rattle.history_object.specs.Ways.{AreWays}
 use Rattle.history_object.specs.declared.way.Way.{Way}
@@ -27,15 +27,15 @@ IsFull judge = (place : ℕ) → place < 64 → (number : ℕ) × (slice_get jud
 abbrev pub HasSome : {S C : Type 0} → (S → C → Option S) → TimedStanding S C → Type 0
 HasSome effect judge = CanGoOn effect judge.standing []
 
--- up to the end of the call with this number, effects lead to more than `most` configurations
-abbrev pub HasMoreAtEnd : {S C : Type 0} → (S → C → Option S) → TimedStanding S C → ℕ → ℕ → Type 0
-HasMoreAtEnd effect judge number most = (place : ℕ) × (slice_get judge.numbers place ≡ Some (Some number))
-    × HasMore (carry (effect_at effect judge.standing.pending) had_effect place) (length judge.standing.pending) judge.standing.kept most
+-- at the end of the call with this number, more than `most` configurations are met
+abbrev pub HasMoreAtEnd : {S C : Type 0} → (S → C → Option S) → (S → C → Bool) → (C → C → Bool) → TimedStanding S C → ℕ → ℕ → Type 0
+HasMoreAtEnd effect reads conflict judge number most = (place : ℕ) × (slice_get judge.numbers place ≡ Some (Some number))
+    × HasMoreMet effect reads conflict judge.standing.pending place judge.standing.kept most
 
--- the refutation has the call that was pending under this number. Its configurations are exactly the kept ones, and
--- those to which effects of pending calls, up to that of this call, lead from them
-abbrev pub IsRefutedOf : {O S C : Type 0} → (S → C → Option S) → TimedStanding S C → ℕ → Refutation O S C → Type 0
-IsRefutedOf effect old number refutation = (place : ℕ) × (slice_get old.numbers place ≡ Some (Some number)) × IsRefuted effect old.standing place refutation
+-- the refutation has the call that was pending under this number, and the configurations that were met at its end
+abbrev pub IsRefutedOf : {O S C : Type 0} → (S → C → Option S) → (S → C → Bool) → (C → C → Bool) → TimedStanding S C → ℕ → Refutation O S C → Type 0
+IsRefutedOf effect reads conflict old number refutation = (place : ℕ) × (slice_get old.numbers place ≡ Some (Some number))
+    × IsRefuted effect reads conflict old.standing place refutation
 
 -- a place is in both lists or in none, and has a number if and only if a call is pending there
 abbrev pub IsNumbered : {C : Type 0} → Option (Option C) → Option (Option ℕ) → Type 0

@@ -16,3 +16,6 @@ pub mod TimedLaws
 pub mod Chunks
 pub mod ObjectBytes
 pub mod Prints
+pub mod Parts
+pub mod Reads
+pub mod Eager

@@ -42,12 +42,16 @@ effect_at effect pending c place =
 abbrev pub forgot_at : {S : Type 0} → Configuration S → ℕ → Configuration S
 forgot_at c place = record { state = c.state; done = slice_set c.done place false }
 
--- the configuration can pass these events. A begin adds a pending call. At an end, effects of pending calls, up to that
--- of the call that ends, must lead to a configuration in which this call had its effect. This configuration, without
--- the call's mark, must pass the remaining events
+-- a place is free
+abbrev pub IsFree : {C : Type 0} → List (Option C) → ℕ → Type 0
+IsFree pending place = slice_get pending place ≡ Some None
+
+-- the configuration can pass these events. A begin adds a pending call at a free place. At an end, effects of pending
+-- calls, up to that of the call that ends, must lead to a configuration in which this call had its effect. This
+-- configuration, without the call's mark, must pass the remaining events
 abbrev pub CanPass : {S C : Type 0} → (S → C → Option S) → List (Option C) → Configuration S → List (Event C) → Type 0
 CanPass effect pending c [] = Unit {0}
-CanPass effect pending c (Begins place call ∷ events) = CanPass effect (slice_set pending place (Some call)) c events
+CanPass effect pending c (Begins place call ∷ events) = IsFree pending place × CanPass effect (slice_set pending place (Some call)) c events
 CanPass {S} effect pending c (Ends place ∷ events) =
     (next : Configuration S) × IsCarriedTo (effect_at effect pending) had_effect (length pending) place c next
     × CanPass effect (slice_set pending place None) (forgot_at next place) events
@@ -77,10 +81,6 @@ unmarked start = record { state = start; done = replicate 64 false }
 -- the first state of a judge: no call is pending, and the object is in this state
 abbrev pub first_standing : {S C : Type 0} → S → Standing S C
 first_standing start = record { pending = none_pending; kept = unmarked start ∷ [] }
-
--- a place is free
-abbrev pub IsFree : {C : Type 0} → List (Option C) → ℕ → Type 0
-IsFree pending place = slice_get pending place ≡ Some None
 
 -- a call is pending at a place
 abbrev pub IsPending : {C : Type 0} → List (Option C) → ℕ → Type 0

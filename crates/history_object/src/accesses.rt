@@ -1,4 +1,7 @@
 //! `ObjectAccesses`, the effects of accesses on the bytes of an object.
+ghost use Rattle.std.specs.Prelude.{◌≡◌};
+ghost use Rattle.history_object.specs.ObjectBytes.{meet};
+
 use crate::access::Access;
 use crate::bytes::ObjectBytes;
 use crate::calls::Calls;
@@ -8,13 +11,17 @@ use std::alloc::{AllocError, Global};
 pub struct ObjectAccesses;
 
 impl Calls for ObjectAccesses {
-    ghost use Rattle.history_object.specs.ObjectBytes.{effect};
+    ghost use Rattle.history_object.specs.ObjectBytes.{conflict, effect, reads};
 
     type State = ObjectBytes;
 
     type Call = Access;
 
     ghost effect = { effect };
+
+    ghost reads = { reads };
+
+    ghost conflict = { conflict };
 
     fn effect(
         alloc: Global,
@@ -39,7 +46,42 @@ impl Calls for ObjectAccesses {
         }
     }
 
+    fn reads(state: &ObjectBytes, access: &Access) -> bool {
+        match access {
+            Access::Load(off, len, answered) => state.answers(*off, *len, answered.as_slice()),
+            Access::Nothing => true,
+            Access::Store(..) | Access::Elsewhere(_) => false,
+        }
+    }
+
+    fn conflict(access: &Access, other: &Access) -> bool {
+        match (access, other) {
+            (Access::Store(off, new), Access::Store(from, bytes))
+            | (Access::Store(off, new), Access::Load(from, _, bytes))
+            | (Access::Load(off, _, new), Access::Store(from, bytes)) => {
+                meet(*off, new.len(), *from, bytes.len())
+            }
+            _ => false,
+        }
+    }
+
     fn copied(alloc: Global, state: &ObjectBytes) -> Result<ObjectBytes, AllocError> {
         state.copied(alloc)
+    }
+
+    fn laws() {}
+}
+
+/// Whether the ranges of `len` bytes from offset `off` on and of `count` bytes from offset `from` on have a byte in
+/// common.
+fn meet(off: u64, len: usize, from: u64, count: usize) -> bool
+    ensures { result ≡ meet off len from count }
+{
+    if off < from {
+        from - off < len as u64
+    } else if from < off {
+        off - from < count as u64
+    } else {
+        0 < len && 0 < count
     }
 }

@@ -2,7 +2,7 @@
 use Rattle.std.proofs.Common.{◌≡◌, ◌≢◌, ℕ, ◌<◌, ◌≤◌, ◌↔◌, inl, inr, Bool, true, false, IsTrue, List, Some, None, arith, refl, ap}
 use Rattle.std.proofs.lemmas.Bool.Decides.{eqb_tells}
 use Rattle.history_reading.specs.declared.words.TimedCall.{TimedCall}
-use Rattle.history_object.specs.ObjectBytes.{State, effect, first_state}
+use Rattle.history_object.specs.ObjectBytes.{State, conflict, effect, first_state, reads}
 use Rattle.history_object.specs.declared.access.Access.{Access}
 use Rattle.history_object.specs.declared.faults.JudgeFault.{JudgeFault}
 use Rattle.history_object.specs.declared.faults.JudgeFault.TheVariants.{Memory, TooMany, TooManyPending}
@@ -64,7 +64,7 @@ open_from_none calls timeds moment judge is k timed at opened = absurd (is opene
 
 -- the end of an access stops the judge
 pub stopped_at_end : {O : Type 0} (len : ℕ) (timeds : List (Timed Access)) (moment most number : ℕ) (fault : JudgeFault) (judge : OrderedJudge O State Access)
-    → IsUpTo len timeds moment judge → (fault ≡ TooMany → HasMoreAtEnd effect judge.judge number most) → (fault ≡ TooManyPending → ⊥) → HasStoppedAt len timeds most fault
+    → IsUpTo len timeds moment judge → (fault ≡ TooMany → HasMoreAtEnd effect reads conflict judge.judge number most) → (fault ≡ TooManyPending → ⊥) → HasStoppedAt len timeds most fault
 stopped_at_end len timeds moment most number Memory judge up_to many not_full = tt
 stopped_at_end len timeds moment most number TooMany judge up_to many not_full = (judge.judge, number, up_to.follows.follows, many refl)
 stopped_at_end len timeds moment most number TooManyPending judge up_to many not_full = absurd (not_full refl)

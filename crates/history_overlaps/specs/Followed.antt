@@ -5,7 +5,7 @@ use Rattle.model_intervals.specs.Objects.{Object, object_made}
 use Rattle.model_intervals.specs.OverlappingCalls.{IsAt}
 use Rattle.history_object.specs.declared.faults.JudgeFault.{JudgeFault}
 use Rattle.history_object.specs.declared.faults.JudgeFault.TheVariants.{Memory, TooMany, TooManyPending}
-use Rattle.history_object.specs.ObjectBytes.{State, effect, first_state}
+use Rattle.history_object.specs.ObjectBytes.{State, conflict, effect, first_state, reads}
 use Rattle.history_object.specs.declared.access.Access.{Access}
 use Rattle.history_object.specs.Following.{HasMoreAtEnd, HasSome, IsFull, IsJudgeOf, IsOpen, TimedStanding}
 use Rattle.history_object.specs.OrderedJudges.{IsOrderedJudgeOf}
@@ -67,7 +67,7 @@ pub record IsRefutedAt {O : Type 0} (len : ℕ) (timeds : List (Timed Access)) (
 -- of an access, or 64 accesses are pending when another begins. An allocation failure claims nothing
 abbrev pub HasStoppedAt : ℕ → List (Timed Access) → ℕ → JudgeFault → Type 0
 HasStoppedAt len timeds most TooMany =
-    (judge : TimedStanding State Access) × (number : ℕ) × IsJudgeOf effect (first_state len) timeds judge × HasMoreAtEnd effect judge number most
+    (judge : TimedStanding State Access) × (number : ℕ) × IsJudgeOf effect (first_state len) timeds judge × HasMoreAtEnd effect reads conflict judge number most
 HasStoppedAt len timeds most TooManyPending = (judge : TimedStanding State Access) × IsJudgeOf effect (first_state len) timeds judge × IsFull judge
 HasStoppedAt len timeds most Memory = Unit {0}
 

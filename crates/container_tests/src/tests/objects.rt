@@ -89,13 +89,23 @@ fn a_refused_access_is_no_error(rt: HostRuntime) {
     assert!(rt; effects(rt.alloc()) == Some([true, false, false, false]));
 }
 
-/// Records the end of the call at a place. Returns whether some configuration is left. Returns `None` if no call is
-/// pending at the place, or if the judge returned an error.
-fn end(alloc: Global, judge: &mut Judge<ObjectAccesses>, place: usize) -> Option<bool> {
+/// Records the end of the call at a place, at which at most `most` configurations may be met. Returns whether some
+/// configuration is left. Returns `None` if no call is pending at the place, or if the judge returned an error.
+fn end_within(
+    alloc: Global,
+    judge: &mut Judge<ObjectAccesses>,
+    place: usize,
+    most: usize,
+) -> Option<bool> {
     if !judge.is_pending(place) {
         return None;
     }
-    Some(judge.end(alloc, place, 100).ok()?.is_none())
+    Some(judge.end(alloc, place, most).ok()?.is_none())
+}
+
+/// Records the end of the call at a place. The result is that of `end_within`, with at most 100 configurations.
+fn end(alloc: Global, judge: &mut Judge<ObjectAccesses>, place: usize) -> Option<bool> {
+    end_within(alloc, judge, place, 100)
 }
 
 /// Records the begin and the end of a load of bytes 63 and 64, which found zeros. The result is that of `end`.
@@ -120,4 +130,46 @@ fn a_judge_follows_the_bytes(rt: HostRuntime) {
     let start = ObjectBytes::new(rt.alloc(), 100);
     let mut judge = Judge::new(rt.alloc(), start).expect(&rt, "memory");
     assert!(rt; ends(rt.alloc(), &mut judge) == Some([true, true, false]));
+}
+
+/// Creates a judge of 100 zeros. Returns `None` if an allocation fails.
+fn new_judge(alloc: Global) -> Option<Judge<ObjectAccesses>> {
+    Judge::new(alloc, ObjectBytes::new(alloc, 100)).ok()
+}
+
+/// Records the end of a store to the first byte among forty loads of this byte that found zero. At the end four
+/// configurations are met: with the store before all loads, with it behind them, with the loads alone, and with none of
+/// these. The result is that of `end_within`.
+fn ended_among_loads(alloc: Global, most: usize) -> Option<bool> {
+    let mut judge = new_judge(alloc)?;
+    let place = judge.begin(Access::Store(0, bytes_of(&[1]))).ok()?;
+    for _load in 0..40 {
+        let load = Access::Load(0, 1, bytes_of(&[0]));
+        let _place = judge.begin(load).ok()?;
+    }
+    end_within(alloc, &mut judge, place, most)
+}
+
+#[test]
+fn pending_loads_have_their_effects_at_once(rt: HostRuntime) {
+    assert!(rt; ended_among_loads(rt.alloc(), 4) == Some(true));
+    assert!(rt; ended_among_loads(rt.alloc(), 3) == None);
+}
+
+/// Records the end of a store to the first byte among stores to the forty bytes behind it. At the end two
+/// configurations are met: with this store and without it. The result is that of `end_within`.
+fn ended_among_stores(alloc: Global, most: usize) -> Option<bool> {
+    let mut judge = new_judge(alloc)?;
+    let place = judge.begin(Access::Store(0, bytes_of(&[1]))).ok()?;
+    for byte in 1..41_u64 {
+        let store = Access::Store(byte, bytes_of(&[1]));
+        let _place = judge.begin(store).ok()?;
+    }
+    end_within(alloc, &mut judge, place, most)
+}
+
+#[test]
+fn stores_to_other_bytes_wait(rt: HostRuntime) {
+    assert!(rt; ended_among_stores(rt.alloc(), 2) == Some(true));
+    assert!(rt; ended_among_stores(rt.alloc(), 1) == None);
 }

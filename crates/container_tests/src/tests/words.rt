@@ -28,11 +28,11 @@ pub(crate) struct Access {
     pub value: u64,
 }
 
-/// The word as an object.
+/// The word as an object. No access is told to read alone, and all accesses are told to conflict.
 pub(crate) struct Register;
 
 impl Calls for Register {
-    ghost use Rattle.std.specs.Prelude.{Some, None, nat_eq, if◌then◌else◌};
+    ghost use Rattle.std.specs.Prelude.{Some, None, true, false, nat_eq, if◌then◌else◌};
 
     type State = Word;
 
@@ -40,6 +40,10 @@ impl Calls for Register {
 
     ghost effect = { λ word access. if access.stores then Some (record { value = access.value })
         else (if nat_eq access.value word.value then Some (record { value = access.value }) else None) };
+
+    ghost reads = { λ _ _. false };
+
+    ghost conflict = { λ _ _. true };
 
     fn effect(_: Global, word: &Word, access: &Access) -> Result<Option<Word>, AllocError> {
         let value = access.value;
@@ -49,7 +53,17 @@ impl Calls for Register {
         Ok(None)
     }
 
+    fn reads(_word: &Word, _access: &Access) -> bool {
+        false
+    }
+
+    fn conflict(_access: &Access, _other: &Access) -> bool {
+        true
+    }
+
     fn copied(_: Global, word: &Word) -> Result<Word, AllocError> {
         Ok(*word)
     }
+
+    fn laws() {}
 }
