@@ -257,8 +257,8 @@ struct record_cursor {
     const struct record_call *next, *end, *last;
 };
 
-/* When a call ended. For a call that was pending at a crash this is the greatest number: it may take effect after all
- * others, so that none needs to have seen it. */
+/* When a call ended. For a call that was pending at a crash this is the greatest number: it may have taken effect, or
+ * not, and after all other calls it has none that they could see. */
 static inline uint64_t record_end_of(const struct record_call *call)
 {
     return call->end != 0 ? call->end : UINT64_MAX;

@@ -27,8 +27,8 @@
  * The last three have a pool of blocks instead of `malloc`. With --pool the pool is used without a bug.
  *
  * The calls are recorded in the file racing_real.record (--record FILE), which is removed when it was merged. With
- * --crash-after N the first thread aborts within its first store after N calls. Then the file is left, and merge_record
- * makes a history of it.
+ * --crash-after N the first thread aborts within its first store after N calls, when others may have loaded what it
+ * stored. Then the file is left, and merge_record makes a history of it.
  *
  * A line on standard error has the number of calls, of pairs of calls on one object that overlapped, and how often the
  * bug struck. The status is 1 if it never did, or if the calls can't be recorded, and 2 for a wrong command line.
@@ -137,7 +137,7 @@ static struct block *pop(struct worker *worker)
         if (block == NULL)
             return NULL;
         next = block->next;
-        if (bug != DOUBLE && bug != USE_AFTER_FREE && random_below(worker, 16) == 0)
+        if (bug != DOUBLE && bug != USE_AFTER_FREE && random_below(worker, 8) == 0)
             wait_for_others();
         if (strikes_now(worker, DOUBLE))
             next = block;
@@ -291,8 +291,10 @@ static void store(struct worker *worker, const struct object *object, unsigned i
     uint64_t value = (uint64_t)random_below(worker, UINT32_MAX) << 32 | random_below(worker, UINT32_MAX);
     begun(worker, record_begin_put(worker->record, object->cell, index * WORD_BYTES, &value, WORD_BYTES));
     real_put(worker, &object->address[index], value);
-    if (given.crash_after != 0 && worker == workers && worker->calls > given.crash_after)
+    if (given.crash_after != 0 && worker == workers && worker->calls > given.crash_after) {
+        wait_for_others();
         abort();
+    }
     record_end(worker->record);
 }
 

@@ -1,10 +1,12 @@
 """Histories that allocators in C record, and those of calls that overlap, judged by another engine too."""
 
 import pathlib
+import platform
+import re
 import socket
 import sys
 
-from cli.suite import NOTHING, SOME_TEXT, Explained, Run, execute, line
+from cli.suite import NOTHING, SOME_TEXT, Beginning, Explained, Run, execute, line
 
 OVERLAPPING = pathlib.Path("histories/overlapping")
 LOST_STORE = (
@@ -18,6 +20,7 @@ def cases(suite):
     for history in sorted(OVERLAPPING.glob("*.history")):
         overlapping(suite, history)
     racing_threads(suite)
+    recorded_threads(suite)
     for version in (1, 2):
         long_lines(suite, version)
         failing_read(suite, version)
@@ -100,6 +103,68 @@ def faulty(suite, racing, threads):
         if suite.run("check", history).status:
             break
     return history
+
+
+def recorded_threads(suite):
+    """The histories of examples/racing_real.c, recorded by mesh_record.h: without a bug, with three, and of a crash."""
+    words = "gcc", "-std=gnu11", "-Wpedantic", "-pthread", "examples/racing_real.c"
+    real = compiled(suite, "threads in C that race on malloc", words, suite.room / "real")
+    right_threads(suite, "2 threads on malloc", real, "--threads", 2)
+    right_threads(suite, "4 threads on malloc", real, "--threads", 4)
+    right_threads(suite, "4 threads on a pool", real, "--threads", 4, "--pool")
+    if platform.machine() == "x86_64":
+        words = *words, "-DMESH_RECORD_TSC"
+        timed = compiled(suite, "threads in C that race, with time stamps", words, suite.room / "timed")
+        right_threads(suite, "4 threads with time stamps", timed, "--threads", 4)
+    for bug in ("double", "uncleared", "lost-store"):
+        wrong_threads(suite, real, bug)
+    crashed_threads(suite, real)
+
+
+def right_threads(suite, name, real, *words):
+    """Threads without a bug: each history is linearizable. Calls overlap in at least one of up to 20 runs."""
+    for seed in range(1, 21):
+        run, history = recorded(suite, real, "--seed", seed, *words)
+        overlaps = re.fullmatch(rb"\d+ calls, (\d+) pairs on one object overlapped\n", run.errors)
+        wanted = line(f"linearizable {entries_in(history)} entries")
+        suite.check(f"check: the recorded history of {name}", 0, wanted, NOTHING, "check", history)
+        if run.status or not overlaps or int(overlaps[1]):
+            break
+    faults = [] if run.status == 0 and overlaps and int(overlaps[1]) else [f"status {run.status}, {run.errors}"]
+    suite.report(f"record: the calls of {name} overlap", faults)
+
+
+def wrong_threads(suite, real, bug):
+    """Threads with a bug, which strikes and is found in at least one of up to 20 runs."""
+    for seed in range(1, 21):
+        run, history = recorded(suite, real, "--seed", seed, "--bug", bug)
+        if run.status == 0 and suite.run("check", history).status:
+            break
+    struck = re.search(rb", %s struck [1-9]\d* times\n$" % bug.encode(), run.errors)
+    suite.report(f"record: {bug} strikes", [] if struck and run.status == 0 else [f"status {run.status}, {run.errors}"])
+    suite.check(f"check: a recorded history with {bug}", 3, Beginning(b"line "), NOTHING, "check", history)
+
+
+def recorded(suite, real, *words):
+    """A run of threads that race, and its history."""
+    run = execute([real, "--calls", 1500, "--record", suite.room / "real.record", *words])
+    return run, suite.write("real.history", run.output)
+
+
+def crashed_threads(suite, real):
+    """Threads of which one aborts within a store: the calls up to the abort, among them the store."""
+    words = "gcc", "-std=gnu11", "-Wpedantic", "examples/merge_record.c"
+    merge = compiled(suite, "a program that merges the records of threads", words, suite.room / "merge")
+    run, history = recorded(suite, real, "--crash-after", 500)
+    suite.compare("record: threads that crash", run, 134, NOTHING, NOTHING)
+    merged = execute([merge, suite.room / "real.record"])
+    history.write_bytes(merged.output)
+    pending = re.fullmatch(rb"(\d+) calls were pending: [1-9]\d* are written .*\n", merged.errors)
+    stores = re.findall(rb"^0 \d+ 18446744073709551615 put ", merged.output, re.MULTILINE)
+    is_whole = merged.status == 0 and pending and len(stores) == 1 and entries_in(history) > 500
+    suite.report("record: the calls before a crash", [] if is_whole else [f"status {merged.status}, {merged.errors}"])
+    wanted = line(f"linearizable {entries_in(history)} entries")
+    suite.check("check: the recorded history of a crash", 0, wanted, NOTHING, "check", history)
 
 
 def long_lines(suite, version):
