@@ -382,7 +382,6 @@ static inline bool record_write_calls(FILE *out, const struct record_head *head,
         const struct record_call *first = (const struct record_call *)(head + 1) + w * head->calls;
         cursors[w] = (struct record_cursor){ first, first + head->calls, NULL };
     }
-    memset(counts, 0, sizeof *counts);
     fprintf(out, "history 2\n");
     while ((w = record_earliest(cursors, workers)) < workers) {
         const struct record_call *call = cursors[w].next++;
@@ -413,14 +412,14 @@ static inline bool record_merge(const char *path, FILE *out, struct record_count
 {
     size_t bytes;
     const struct record_head *head = record_map(path, &bytes);
+    memset(counts, 0, sizeof *counts);
     if (head == NULL)
         return false;
     bool is_written = record_write_calls(out, head, counts);
     munmap((void *)head, bytes);
     if (counts->pending > 0)
-        fprintf(stderr, "%" PRIu64 " calls were pending: %" PRIu64 " are written without an end, %" PRIu64
-                " without an answer are left out\n", counts->pending, counts->pending - counts->left_out,
-                counts->left_out);
+        fprintf(stderr, "%" PRIu64 " pending: %" PRIu64 " with the greatest END, %" PRIu64 " left out\n",
+                counts->pending, counts->pending - counts->left_out, counts->left_out);
     return is_written;
 }
 

@@ -35,6 +35,7 @@
  */
 #include <pthread.h>
 #include <sched.h>
+#include <signal.h>
 #include <stddef.h>
 #include <stdlib.h>
 
@@ -412,12 +413,15 @@ int main(int count, char **words)
         perror(record);
         return 1;
     }
-    if (!run() || !record_merge(record, stdout, &counts))
+    /* A reader of the history may end early. */
+    signal(SIGPIPE, SIG_IGN);
+    if (!run())
         return 1;
+    bool is_merged = record_merge(record, stdout, &counts);
     remove(record);
     fprintf(stderr, "%" PRIu64 " calls, %" PRIu64 " pairs on one object overlapped", counts.calls, counts.overlaps);
     if (bug != NO_BUG)
         fprintf(stderr, ", %s struck %lu times", bug_names[bug], (unsigned long)strikes);
     fputc('\n', stderr);
-    return bug != NO_BUG && strikes == 0 ? 1 : 0;
+    return is_merged && (bug == NO_BUG || strikes > 0) ? 0 : 1;
 }

@@ -159,7 +159,7 @@ def crashed_threads(suite, real):
     suite.compare("record: threads that crash", run, 134, NOTHING, NOTHING)
     merged = execute([merge, suite.room / "real.record"])
     history.write_bytes(merged.output)
-    pending = re.fullmatch(rb"(\d+) calls were pending: [1-9]\d* are written .*\n", merged.errors)
+    pending = re.fullmatch(rb"\d+ pending: [1-9]\d* with the greatest END, \d+ left out\n", merged.errors)
     stores = re.findall(rb"^0 \d+ 18446744073709551615 put ", merged.output, re.MULTILINE)
     is_whole = merged.status == 0 and pending and len(stores) == 1 and entries_in(history) > 500
     suite.report("record: the calls before a crash", [] if is_whole else [f"status {merged.status}, {merged.errors}"])
