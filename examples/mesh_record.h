@@ -418,7 +418,7 @@ static inline bool record_merge(const char *path, FILE *out, struct record_count
     bool is_written = record_write_calls(out, head, counts);
     munmap((void *)head, bytes);
     if (counts->pending > 0)
-        fprintf(stderr, "%" PRIu64 " pending: %" PRIu64 " with the greatest END, %" PRIu64 " left out\n",
+        fprintf(stderr, "calls that were pending: %" PRIu64 ", with the greatest END %" PRIu64 ", left out %" PRIu64 "\n",
                 counts->pending, counts->pending - counts->left_out, counts->left_out);
     return is_written;
 }

@@ -87,10 +87,9 @@ static bool strikes_now(struct worker *worker, enum bug kind)
     return bug == kind && random_below(worker, 32) == 0;
 }
 
-/* Lets other threads make several calls. */
-static void wait_for_others(void)
+static void let_others_run(unsigned times)
 {
-    for (int i = 0; i < 16; i++)
+    while (times-- > 0)
         sched_yield();
 }
 
@@ -139,7 +138,7 @@ static struct block *pop(struct worker *worker)
             return NULL;
         next = block->next;
         if (bug != DOUBLE && bug != USE_AFTER_FREE && random_below(worker, 8) == 0)
-            wait_for_others();
+            let_others_run(32);
         if (strikes_now(worker, DOUBLE))
             next = block;
     } while (!atomic_compare_exchange_strong(&list, &old, link_after(old, next)));
@@ -210,7 +209,7 @@ static void real_free(struct worker *worker, word *address)
 static void move_word(word *at)
 {
     uint64_t kept = load_relaxed(at);
-    sched_yield();
+    let_others_run(4);
     if (atomic_exchange_explicit(at, kept, memory_order_relaxed) != kept)
         strikes++;
 }
@@ -233,7 +232,7 @@ static void real_put(struct worker *worker, word *at, uint64_t value)
 {
     if (strikes_now(worker, TORN_STORE)) {
         store_relaxed(at, (load_relaxed(at) & UINT32_MAX) | (value & ~(uint64_t)UINT32_MAX));
-        sched_yield();
+        let_others_run(1);
         strikes++;
     }
     store_relaxed(at, value);
@@ -260,8 +259,7 @@ static void begun(struct worker *worker, bool is_recorded)
         exit(1);
     }
     worker->calls++;
-    if (random_below(worker, 64) == 0)
-        sched_yield();
+    let_others_run(random_below(worker, 64) == 0);
 }
 
 static void make(struct worker *worker, struct object *object)
@@ -293,7 +291,7 @@ static void store(struct worker *worker, const struct object *object, unsigned i
     begun(worker, record_begin_put(worker->record, object->cell, index * WORD_BYTES, &value, WORD_BYTES));
     real_put(worker, &object->address[index], value);
     if (given.crash_after != 0 && worker == workers && worker->calls > given.crash_after) {
-        wait_for_others();
+        let_others_run(16);
         abort();
     }
     record_end(worker->record);
@@ -322,7 +320,7 @@ static void *work(void *own)
 {
     struct worker *worker = own;
     while (!has_begun)
-        sched_yield();
+        let_others_run(1);
     while (worker->calls < given.calls) {
         struct place *place = &places[random_below(worker, (unsigned)given.objects)];
         bool is_change = random_below(worker, has_pool ? 4 : 16) == 0;

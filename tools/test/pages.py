@@ -7,7 +7,7 @@ A fault is
 
 - a link to a file of the repository that leads to no file, or whose `#heading` is no heading of that file;
 - a file that a page names in backticks and that doesn't exist; or a name in backticks that begins with mesh_ or model_
-  and is neither a crate nor a word of the code;
+  and is neither a crate, a word of the code nor an example;
 - a quoted program (a block marked rust) whose lines are in no source file;
 - a line of more than 120 characters: of a page, tables, code and images aside; of a comment; or of a contract.
 
@@ -122,6 +122,7 @@ def source_faults(path):
 def main():
     code = [*sources(".rt"), *sources(".antt")]
     words = set().union(*(NAME.findall(path.read_text()) for path in code))
+    words |= {path.stem for path in TOP.glob("examples/*")}
     pages = [*TOP.glob("*.md"), *TOP.glob("docs/*.md"), *CRATES.glob("*/*.md")]
     faults = [(page, *fault) for page in pages for fault in page_faults(page, words)]
     faults += [(page, *fault) for page in pages for fault in quote_faults(page)]

@@ -8,6 +8,7 @@ import sys
 
 from cli.suite import NOTHING, SOME_TEXT, Beginning, Explained, Run, execute, line
 
+PENDING = rb"calls that were pending: \d+, with the greatest END [1-9]\d*, left out \d+\n"
 OVERLAPPING = pathlib.Path("histories/overlapping")
 LOST_STORE = (
     "line 306: answer differs: bytes 00000000000000000000000000000000, "
@@ -159,12 +160,18 @@ def crashed_threads(suite, real):
     suite.compare("record: threads that crash", run, 134, NOTHING, NOTHING)
     merged = execute([merge, suite.room / "real.record"])
     history.write_bytes(merged.output)
-    pending = re.fullmatch(rb"\d+ pending: [1-9]\d* with the greatest END, \d+ left out\n", merged.errors)
+    pending = re.fullmatch(PENDING, merged.errors)
     stores = re.findall(rb"^0 \d+ 18446744073709551615 put ", merged.output, re.MULTILINE)
     is_whole = merged.status == 0 and pending and len(stores) == 1 and entries_in(history) > 500
     suite.report("record: the calls before a crash", [] if is_whole else [f"status {merged.status}, {merged.errors}"])
     wanted = line(f"linearizable {entries_in(history)} entries")
     suite.check("check: the recorded history of a crash", 0, wanted, NOTHING, "check", history)
+
+    # The kind of the first call: the first line of 64 bytes is the file's head.
+    record = bytearray((suite.room / "real.record").read_bytes())
+    record[64 + 28] = 9
+    merged = execute([merge, suite.write("overwritten.record", record)])
+    suite.compare("record: a call that was overwritten", merged, 1, Beginning(b"history 2\n"), SOME_TEXT)
 
 
 def long_lines(suite, version):
