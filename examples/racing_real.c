@@ -11,8 +11,8 @@
  *     LD_PRELOAD=libjemalloc.so.2 ./racing_real >real.history
  *
  * Several threads access the same words at once. Each access is one relaxed atomic load or store of a word, so the
- * program has no data race and takes no order for granted. A lock of each object is held shared for an access, and alone
- * for `new` and `free`. So a call on an object begins after its `new` ended, and ends before its `free` begins.
+ * program has no data race and takes no order for granted. A lock of each object is held shared for an access, and
+ * alone for `new` and `free`. So a call on an object begins after its `new` ended, and ends before its `free` begins.
  *
  * --bug NAME adds a fault of a kind that allocators have, which strikes now and then:
  *

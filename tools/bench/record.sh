@@ -14,8 +14,8 @@
 # A line of the second part has the clock, the number of threads, and the processor time of a recorded call in
 # nanoseconds, the least of 5 runs.
 #
-# The status is 1 if a history without a bug isn't linearizable, and 2 if there is no program. It needs gcc, GNU time and
-# x86-64.
+# The status is 1 if a history without a bug isn't linearizable, and 2 if there is no program. It needs gcc, GNU time
+# and x86-64.
 
 . "$(dirname "$0")/../program.sh"
 find_program "$1"

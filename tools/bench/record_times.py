@@ -61,7 +61,8 @@ def row(name, bug, clock="COUNTER"):
 def main():
     """Prints both parts. Returns whether all histories without a bug are linearizable."""
     are_right = True
-    print(f"{'allocator':9} {'bug':15} {'struck'} {KINDS[0]:>12} {'wrong call':>12} {KINDS[2]:>12} {'overlaps':>9}   calls/s")
+    kinds = " ".join(f"{kind:>12}" for kind in ("linearizable", "wrong call", "undecided"))
+    print(f"{'allocator':9} {'bug':15} struck {kinds} {'overlaps':>9}   calls/s")
     for name, library in LIBRARIES.items():
         if library and not is_installed(library):
             continue
