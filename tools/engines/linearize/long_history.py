@@ -3,11 +3,17 @@
 
     tools/engines/linearize/long_history.py CALLS THREADS OBJECTS
     tools/engines/linearize/long_history.py CALLS THREADS --pending
+    tools/engines/linearize/long_history.py CALLS THREADS --slot
+    tools/engines/linearize/long_history.py CALLS THREADS --pairs
 
 CALLS is about the number of calls, and THREADS that of threads. With OBJECTS, threads store to and load from at most
 that many objects of 16 bytes at a time, and a tenth of their calls make or free an object. With --pending the calls of
 all threads on one object are pending at once, again and again: these are the most configurations for this number of
 threads.
+
+With --slot, threads load from the first 8 bytes of one object, and one of six calls stores there. With --pairs, pairs
+of threads store to slots of one object that they share with no other pair, CALLS stores in all. Then all slots are
+loaded, one after another. Each pair's stores are pending at once, so either value may be left in a slot until then.
 
 The output is a history of version 2. Each call takes effect at a moment between its begin and its end, and its answer
 is for the bytes at that moment. The same arguments give the same history.
@@ -18,26 +24,32 @@ import random
 import sys
 
 LEN = 16
+SLOT = 8
 
 
-def store_or_load(source):
-    """A command on an object's byte, without its cell: `put` or `get`, the offset, and the byte that is stored."""
-    return source.choice(["put", "get"]), source.randrange(LEN), source.randrange(256)
+def on_byte(source):
+    """A command on a byte of an object, without its cell: `put` or `get`, the offset, and what is stored."""
+    return source.choice(["put", "get"]), source.randrange(LEN), bytes([source.randrange(256)])
+
+
+def on_slot(source):
+    """A command on the first bytes of an object; one of six stores."""
+    return source.choice(["put", *["get"] * 5]), 0, source.randbytes(SLOT)
 
 
 def spelt(cell, command):
     """The command on this cell, as it stands in a line."""
-    name, offset, byte = command
-    return f"put {cell} {offset} {byte:02x}" if name == "put" else f"get {cell} {offset} 1"
+    name, offset, data = command
+    return f"put {cell} {offset} {data.hex()}" if name == "put" else f"get {cell} {offset} {len(data)}"
 
 
 def answer(memory, command):
     """The answer where the command takes effect in these bytes."""
-    name, offset, byte = command
+    name, offset, data = command
     if name == "put":
-        memory[offset] = byte
+        memory[offset:offset + len(data)] = data
         return "done"
-    return f"bytes {memory[offset]:02x}"
+    return f"bytes {bytes(memory[offset:offset + len(data)]).hex()}"
 
 
 def pending(calls, threads, source):
@@ -45,7 +57,7 @@ def pending(calls, threads, source):
     memory = [0] * LEN
     yield f"0 0 1 new 1 {LEN} 0 -> object 1 at 1000"
     for moment in range(2, 2 + 3 * (calls // threads), 3):
-        commands = [store_or_load(source) for _ in range(threads)]
+        commands = [on_byte(source) for _ in range(threads)]
         answers = {}
         for thread in source.sample(range(threads), threads):
             answers[thread] = answer(memory, commands[thread])
@@ -74,8 +86,26 @@ class Lives:
         return f"free {cell}", "done"
 
 
-def racing(calls, threads, most, source):
-    """The lines of threads that race on at most so many objects."""
+def pairs(calls, threads, source):
+    """The lines of pairs of stores that race, each pair on slots of its own, and of loads of all slots."""
+    slots = calls // 2
+    yield f"0 0 1 new 1 {SLOT * slots} 0 -> object 1 at 1000"
+    memory = [0] * SLOT * slots
+    for first in range(0, slots, threads // 2):
+        moment = 2 + 2 * (first // (threads // 2))
+        for thread in range(2 * min(threads // 2, slots - first)):
+            command = "put", SLOT * (first + thread // 2), source.randbytes(SLOT)
+            if thread % 2 == 0 or source.randrange(2) == 0:
+                answer(memory, command)
+            yield f"{thread} {moment} {moment + 1} {spelt(1, command)} -> done"
+    for slot in range(slots):
+        moment = 2 * slots + 4 + 2 * slot
+        command = "get", SLOT * slot, bytes(SLOT)
+        yield f"0 {moment} {moment + 1} {spelt(1, command)} -> {answer(memory, command)}"
+
+
+def racing(calls, threads, most, commanded, source):
+    """The lines of threads that race on at most so many objects, with such commands."""
     lives = Lives(most)
     memories, effects, lines = {}, [], []
     free_threads = [(source.randrange(5), thread) for thread in range(threads)]
@@ -101,7 +131,7 @@ def racing(calls, threads, most, source):
         elif chance > 0.95 and idle and len(lives.living) > most // 2:
             lines.append([stamps, *lives.free(source.choice(idle))])
         elif usable:
-            cell, command = source.choice(usable), store_or_load(source)
+            cell, command = source.choice(usable), commanded(source)
             lives.living[cell][2] = max(lives.living[cell][2], end)
             heapq.heappush(effects, (source.randint(begin, end), len(lines), cell, command))
             lines.append([stamps, spelt(cell, command), None])
@@ -118,8 +148,12 @@ def main():
     calls, threads, source = int(sys.argv[1]), int(sys.argv[2]), random.Random(1)
     if sys.argv[3] == "--pending":
         lines = pending(calls, threads, source)
+    elif sys.argv[3] == "--pairs":
+        lines = pairs(calls, threads, source)
+    elif sys.argv[3] == "--slot":
+        lines = racing(calls, threads, 1, on_slot, source)
     else:
-        lines = racing(calls, threads, int(sys.argv[3]), source)
+        lines = racing(calls, threads, int(sys.argv[3]), on_byte, source)
     print("history 2")
     for line in lines:
         print(line)

@@ -359,12 +359,13 @@ private:
     bool serves(const Part& part, const Pending& pending, const uint64_t* from, const uint64_t* to) {
         Marks stores = part.pending & ~pending.reads;
         if (from[0] & ~to[0] & stores) return false;
+        if (!are_alike(part, pending, to[0] & ~from[0] & stores, from, to)) return false;
         Rows met(8 * (part.rows.width() - 1));
         mark_reads(met.add(from), part, pending);
         serving_.start(met);
         for (size_t row = 0; row < met.count(); row++) {
             Marks left = to[0] & ~met[row][0] & stores;
-            if (!left && is_same(met[row], to, met.width())) return true;
+            if (!left && !(to[0] & ~met[row][0]) && have_same_bytes(met[row], to, met.width())) return true;
             for (; left; left &= left - 1) {
                 if (take_effect(met[row], part, pending, lowest(left))) serving_.add(met, row_.data());
             }
@@ -372,8 +373,18 @@ private:
         return false;
     }
 
-    static bool is_same(const uint64_t* one, const uint64_t* other, size_t width) {
-        return !(other[0] & ~one[0]) && std::equal(one + 1, one + width, other + 1);
+    /// Whether two configurations have the same bytes outside the ranges of stores.
+    bool are_alike(const Part& part, const Pending& pending, Marks stores, const uint64_t* one, const uint64_t* other) {
+        row_.assign(one, one + part.rows.width());
+        for (; stores; stores &= stores - 1) {
+            const Access& store = pending.at[lowest(stores)];
+            memcpy(bytes_of(row_.data()) + store.place, bytes_of(other) + store.place, store.range.count());
+        }
+        return have_same_bytes(row_.data(), other, part.rows.width());
+    }
+
+    static bool have_same_bytes(const uint64_t* one, const uint64_t* other, size_t width) {
+        return std::equal(one + 1, one + width, other + 1);
     }
 
     std::vector<uint64_t> row_;
@@ -583,12 +594,11 @@ struct Call {
     uint64_t begin, end;
     uint32_t cell;
     std::string word, answer;
-    uint64_t length = 0;
-    uint64_t address = 0;
+    uint64_t length = 0, address = 0;
     uint32_t serial = 0;
     /// Of a `free`, how many of its cell began before it; of an access, its place in the object's judge.
     size_t earlier_frees = 0;
-    std::optional<unsigned> place;
+    std::optional<unsigned> place = {};
 
     bool is_object() const { return begins_with(answer, "object "); }
 };
