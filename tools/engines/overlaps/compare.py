@@ -4,8 +4,9 @@
     tools/engines/overlaps/compare.py [COUNT [SEED [PROGRAM]]]
 
 COUNT is the number of histories, by default 1,000, and SEED the first seed, by default 1. PROGRAM is a built `meshrun`,
-which is compared too if it is given. The histories are random: most have 2 to 9 calls, and some 60, of 2 to 8 threads.
-In three of four, one answer, address, serial or time is changed.
+which is compared too if it is given. The histories are random. Those with an even seed are of random_histories.py; most
+have 2 to 9 calls, and some 60, of 2 to 8 threads. The others have 3 to 9 accesses to one object of a few bytes, which
+race, and in half of them answers are changed.
 
 Each program must print the same verdict as tools/engines/linearize/reference.py, with the same status. The engine in
 mode `plain` and PROGRAM must do so with at most three configurations too. Each difference is a line of the output, and
@@ -15,6 +16,7 @@ the engine can't be compiled. It needs a C++ compiler (CXX, by default g++).
 import collections
 import os
 import pathlib
+import random
 import subprocess
 import sys
 import tempfile
@@ -31,7 +33,47 @@ LIMIT, FEW = 100000, 3
 
 def history(seed):
     """The text of the history of a seed."""
-    return random_histories.history(seed, 60 if seed % 9 == 0 else 2 + seed % 8, 2 + seed % 7)
+    if seed % 2 == 1:
+        return races(random.Random(seed))
+    return random_histories.history(seed, 60 if seed % 9 == 0 else 2 + seed // 2 % 8, 2 + seed // 2 % 7)
+
+
+def races(source):
+    """A history of accesses to one object, each of a thread of its own."""
+    length = source.randint(1, 6)
+    begins = sorted(source.randint(2, 9) for _ in range(source.randint(3, 9)))
+    calls = [[begin, begin + source.randrange(7), *random_access(source, length)] for begin in begins]
+    stored, are_changed = bytearray(length), source.random() < 0.5
+    for call in sorted(calls, key=lambda call: source.uniform(call[0], call[1])):
+        call[-1] = answer(source, stored, *call[2:-1], are_changed and source.random() < 0.4)
+    lines = [f"{worker} {' '.join(map(str, call[:-1]))} -> {call[-1]}" for worker, call in enumerate(calls)]
+    return "\n".join(["history 2", f"99 0 1 new 0 {length} 0 -> object 0 at 1000", *lines, ""])
+
+
+def random_access(source, length):
+    """The fields of a store, a load or a request of the address, and room for the answer. A few ranges end past the
+    object's end."""
+    word = source.choices(("put", "get", "addr"), (6, 6, 1))[0]
+    if word == "addr":
+        return [word, 0, None]
+    first = source.randrange(length)
+    count = source.randint(1, min(4, length - first + (source.random() < 0.02)))
+    data = bytes(source.choices(random_histories.ALPHABET, k=count)).hex()
+    return [word, 0, first, count if word == "get" else data, None]
+
+
+def answer(source, stored, word, _, first=0, what=None, is_changed=False):
+    """The answer of an access that has its effect now, or another one."""
+    if word == "addr":
+        return "at 1001" if is_changed else "at 1000"
+    if word == "put":
+        data = bytes.fromhex(what)
+        stored[first:first + len(data)] = data[:len(stored) - first]
+        return "done"
+    data = bytearray(stored[first:first + what].ljust(what, b"\0"))
+    if is_changed:
+        data[source.randrange(what)] = source.choice(random_histories.ALPHABET)
+    return f"bytes {data.hex()}"
 
 
 def told(status, verdict, fault):

@@ -4,20 +4,20 @@
 //     ./reference FILE [--mode MODE] [--configurations N] [--count]
 //
 // FILE is a history of version 2. For a text without a fault of its spelling it prints the verdict that `meshrun check`
-// prints. The status is 0 if the history is linearizable, 3 if it isn't, and 4 if the verdict is `undecided`. For a line
-// that begins too early the status is 2, with `line L: ORDER` on standard error. It needs GCC or Clang for C++17.
+// prints. The status is 0 if the history is linearizable, 3 if it isn't, and 4 if the verdict is `undecided`. For a
+// line that begins too early the status is 2, with `line L: ORDER` on standard error. It needs GCC or Clang for C++17.
 //
-// Each object is judged by itself. Its configurations are kept: the bytes that it may have, and the marks of the pending
-// accesses that had their effect. When an access ends, those are met to which effects of pending accesses lead, with no
-// effect after that of the access that ends. Those that have its mark stay, without this mark. MODE, by default `plain`,
-// says which effects are tried:
+// Each object is judged by itself. Its configurations are kept: the bytes that it may have, and the marks of the
+// pending accesses that had their effect. When an access ends, those are met to which effects of pending accesses lead,
+// with no effect after that of the access that ends. Those that have its mark stay, without this mark. MODE, by default
+// `plain`, says which effects are tried:
 //
 // - `plain`: all, one after another.
 // - `reads`: with each effect, all pending loads (and requests of the address) that match the new bytes have theirs.
 // - `inside`: as `reads`, but only effects of the smallest set of pending accesses that has the access that ends and,
 //   with an access, each pending one that conflicts with it.
-// - `parts`: as `reads`, with separate configurations for each part of the object. Accesses whose ranges meet are in one
-//   part. Bytes in no part are the same in all configurations.
+// - `parts`: as `reads`, with separate configurations for each part of the object. Accesses whose ranges meet are in
+//   one part. Bytes in no part are the same in all configurations.
 // - `serves`: as `inside`, and a configuration is dropped if effects lead from another one to its bytes and its marks,
 //   and perhaps to marks of further loads.
 //
@@ -326,14 +326,14 @@ public:
 
     /// Drops each configuration for which another one serves.
     void drop_served(Part& part, const Pending& pending) {
-        size_t count = part.rows.count();
-        std::vector<bool> dropped(count);
-        for (size_t row = 0; row < count; row++) {
-            for (size_t other = 0; other < count && !dropped[row]; other++) {
-                dropped[row] = other != row && !dropped[other] && serves(part, pending, part.rows[other], part.rows[row]);
+        Rows& rows = part.rows;
+        std::vector<bool> dropped(rows.count());
+        for (size_t row = 0; row < rows.count(); row++) {
+            for (size_t other = 0; other < rows.count() && !dropped[row]; other++) {
+                dropped[row] = other != row && !dropped[other] && serves(part, pending, rows[other], rows[row]);
             }
         }
-        part.rows.drop(dropped);
+        rows.drop(dropped);
     }
 
 private:
@@ -494,7 +494,8 @@ private:
     Part* joined(const Range& range) {
         auto first = parts_.begin(), end = parts_.end();
         if (search_.mode.parts) std::tie(first, end) = meeting(range);
-        if (std::distance(first, end) == 1 && (range.is_empty() || first->second.block_with(range))) return &first->second;
+        bool is_one = std::distance(first, end) == 1;
+        if (is_one && (range.is_empty() || first->second.block_with(range))) return &first->second;
         Part made;
         if (!combine(first, end, range, made)) return nullptr;
         parts_.erase(first, end);
