@@ -9,8 +9,8 @@ have 2 to 9 calls, and some 60, of 2 to 8 threads. The others have 3 to 9 access
 race, and in half of them answers are changed.
 
 Each program must print the same verdict as tools/engines/linearize/reference.py, with the same status. The engine in
-mode `plain` and PROGRAM must do so with at most three configurations too. Each difference is a line of the output, and
-the last line counts the verdicts by kind. The status is 1 if there is a difference or if a kind never came up, and 2 if
+mode `plain` must do so with at most three configurations too, and PROGRAM must then print what the engine prints in
+mode `inside`, in which it meets as many. Each difference is a line of the output, and the last line counts the verdicts by kind. The status is 1 if there is a difference or if a kind never came up, and 2 if
 the engine can't be compiled. It needs a C++ compiler (CXX, by default g++).
 """
 import collections
@@ -29,6 +29,7 @@ import reference
 MODES = ("plain", "reads", "inside", "parts", "serves")
 KINDS = ("linearizable", "no order explains bytes", "overlaps", "not after", "not before", "undecided", " | ")
 LIMIT, FEW = 100000, 3
+BOUND = ["--configurations", str(FEW)]
 
 
 def history(seed):
@@ -91,8 +92,7 @@ def commands(engine, program, path):
     """The programs that must print the verdict, and those that must print it with few configurations."""
     ours = [[engine, path, "--mode", mode] for mode in MODES]
     theirs = [[program, "check", path]] if program else []
-    few = ["--configurations", str(FEW)]
-    return ours + theirs, [command + few for command in ours[:1] + theirs]
+    return ours + theirs, [ours[0] + BOUND]
 
 
 def differences(seed, text, kinds, engine, program, path):
@@ -104,6 +104,10 @@ def differences(seed, text, kinds, engine, program, path):
         for command in compared:
             if (printed := run(command)) != wanted:
                 yield f"seed {seed}: {printed}, but {wanted}: {' '.join(map(str, command[:1] + command[2:]))}"
+    if program:
+        inside = run([engine, path, "--mode", "inside", *BOUND])
+        if (printed := run([program, "check", path, *BOUND])) != inside:
+            yield f"seed {seed}: {printed}, but {inside}: {program} with {FEW} configurations"
 
 
 def main():
