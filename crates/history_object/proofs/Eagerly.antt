@@ -1,5 +1,5 @@
 -- Effects with all reads after each do what effects one by one do.
-use Rattle.std.proofs.Common.{◌≡◌, inl, inr, ℕ, zero, suc, ◌+◌, ◌≤◌, Bool, true, false, List, [], ◌∷◌, ◌++◌, Option, Some, None, length, slice_set, ap, refl, sym, subst, ◌∙◌, arith}
+use Rattle.std.proofs.Common.{◌≡◌, inl, inr, ℕ, zero, suc, ◌+◌, ◌≤◌, Bool, true, false, List, [], ◌∷◌, ◌++◌, Option, Some, None, length, slice_set, ap, refl, subst, ◌∙◌, arith}
 use Rattle.history_object.specs.declared.configuration.Configuration.{Configuration}
 use Rattle.history_object.specs.Carried.{AreBelow, IsCarriedTo, carry}
 use Rattle.history_object.specs.Reads.{AreReads}
@@ -8,7 +8,7 @@ use Rattle.history_object.specs.Parts.{eager_at, reads_found, with_all_reads, wi
 use Rattle.history_object.specs.Standings.{call_at, effect_at, forgot_at, had_effect}
 use Rattle.history_object.proofs.Lists.{tells}
 use Rattle.history_object.proofs.PlaceLists.{called_within}
-use Rattle.history_object.proofs.Leading.{Leads, Step, leads_below, leads_of, leads_on, of_leads, of_step, reached, step_of}
+use Rattle.history_object.proofs.Leading.{Leads, leads_of, leads_on, of_leads, of_step, reached, step_of}
 use Rattle.history_object.proofs.Covering.{covers_ended, covers_fresh, covers_had, covers_itself, covers_on, reads_cover}
 use Rattle.history_object.proofs.Serving.{carry_below, carry_leads, cut, leads_ended}
 

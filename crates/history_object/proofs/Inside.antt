@@ -3,16 +3,17 @@ use Rattle.std.proofs.Common.{◌≡◌, ◌≢◌, inl, inr, ℕ, zero, suc, �
 use Rattle.std.proofs.lemmas.Bool.Decides.{eqb_tells}
 use Rattle.history_object.specs.declared.configuration.Configuration.{Configuration}
 use Rattle.history_object.specs.Carried.{AreBelow, IsCarriedTo, carry}
-use Rattle.history_object.specs.Standings.{CanPass, effect_at, forgot_at, had_effect}
+use Rattle.history_object.specs.Standings.{effect_at, forgot_at, had_effect}
 use Rattle.history_object.proofs.Lists.{tells}
 use Rattle.history_object.specs.Reads.{AreReads}
 use Rattle.history_object.specs.Eager.{Covers, Serves}
-use Rattle.history_object.specs.Parts.{HasAllOf, IsPart, IsPartOf, OthersMaySwap, eager_at, is_marked, part_at, with_reads}
+use Rattle.history_object.specs.Parts.{HasAllOf, IsPart, IsPartOf, OthersMaySwap, eager_at, part_at, with_reads}
+use Rattle.history_object.specs.Marks.{is_marked}
 use Rattle.history_object.proofs.PlaceLists.{called_within, set_other, set_swap}
 use Rattle.history_object.proofs.Leading.{Leads, Step, leads_of, leads_on, of_leads, of_step, reached, step_of}
 use Rattle.history_object.proofs.Covering.{covers_ended, covers_fresh, covers_had, covers_itself, covers_on, reads_cover}
 use Rattle.history_object.proofs.Eagerly.{all_read, carried_plainly}
-use Rattle.history_object.proofs.Serving.{carry_leads, leads_ended, serving_passes}
+use Rattle.history_object.proofs.Serving.{carry_leads, leads_ended}
 
 -- each place is inside of the part, or each outside
 abbrev pub AreSo : (ℕ → Bool) → Bool → List ℕ → Type 0

@@ -48,3 +48,4 @@ pub mod Eagerly
 pub mod Inside
 pub mod Expanded
 pub mod Apart
+pub mod Words

@@ -1,5 +1,5 @@
 -- Marks and calls at the places of lists.
-use Rattle.std.proofs.Common.{◌≡◌, ◌≢◌, ℕ, zero, suc, ◌<◌, Bool, true, false, List, [], ◌∷◌, Option, Some, None, length, slice_get, slice_set, slice_index_or, ap, refl, sym, ◌∙◌, arith}
+use Rattle.std.proofs.Common.{◌≡◌, ◌≢◌, ℕ, zero, suc, ◌<◌, Bool, false, List, [], ◌∷◌, Option, Some, length, slice_set, slice_index_or, ap, refl, arith}
 use Rattle.history_object.specs.Standings.{call_at}
 
 pub set_other : {A : Type 0} → (xs : List A) (p q : ℕ) (v d : A) → p ≢ q → slice_index_or (slice_set xs p v) q d ≡ slice_index_or xs q d

@@ -1,14 +1,13 @@
 -- A configuration that serves for another passes what the other can pass.
-use Rattle.std.proofs.Common.{◌≡◌, ◌≢◌, ◌↔◌, inl, inr, ℕ, Bool, true, false, List, [], ◌∷◌, ◌++◌, Option, Some, None, length, slice_set, ap, refl, sym, subst, ◌∙◌}
-use Rattle.std.proofs.lemmas.Bool.Decides.{eqb_tells}
+use Rattle.std.proofs.Common.{◌≡◌, ◌≢◌, inl, inr, ℕ, Bool, true, false, List, [], ◌∷◌, ◌++◌, Option, Some, None, length, slice_set, ap, refl, sym, ◌∙◌}
 use Rattle.history_object.specs.declared.configuration.Configuration.{Configuration}
 use Rattle.history_object.specs.Carried.{IsCarriedTo, IsReachable, carry}
-use Rattle.history_object.specs.Standings.{Begins, CanPass, Ends, Event, IsFree, call_at, effect_at, forgot_at, found_call, had_effect}
+use Rattle.history_object.specs.Standings.{Begins, Ends, IsFree, call_at, effect_at, forgot_at, found_call, had_effect}
 use Rattle.history_object.proofs.Lists.{tells}
-use Rattle.history_object.specs.Eager.{Covers, Serves, ServingPasses}
-use Rattle.history_object.proofs.PlaceLists.{called_other, length_set, set_other, set_swap, called_within}
+use Rattle.history_object.specs.Eager.{Serves, ServingPasses}
+use Rattle.history_object.proofs.PlaceLists.{called_other, set_other, set_swap}
 use Rattle.history_object.proofs.Leading.{Leads, Step, leads_below, leads_of, leads_on, of_leads, of_step, reached, step_of}
-use Rattle.history_object.proofs.Covering.{covers_begun, covers_ended, covers_itself, covers_on, reads_cover}
+use Rattle.history_object.proofs.Covering.{covers_begun, covers_ended, covers_on}
 
 -- a call that begins at a free place leaves what effects lead to
 step_begun : {S C : Type 0} → (effect : S → C → Option S) (pending : List (Option C)) (p : ℕ) (call : C) (c : Configuration S) (n : ℕ) (d : Configuration S)

@@ -1,5 +1,5 @@
 -- The pending calls that matter at the end of a call: its part, and the pending calls that read.
-use Rattle.std.specs.Prelude.{◌≡◌, ℕ, zero, suc, Bool, true, false, List, Option, Some, None, length, slice_index_or, slice_set, if◌then◌else◌}
+use Rattle.std.specs.Prelude.{◌≡◌, ℕ, zero, suc, Bool, true, false, List, Option, Some, None, length, slice_set, if◌then◌else◌}
 use Rattle.history_object.specs.declared.configuration.Configuration.{Configuration}
 use Rattle.history_object.specs.Carried.{HasMore, carry}
 use Rattle.history_object.specs.Left.{AreMet, HasLeft}
@@ -48,10 +48,6 @@ eager_at effect reads pending c place = with_all_reads reads pending (effect_at 
 -- the configuration after the effect of a call inside the part, and then of all pending calls that read
 abbrev pub part_at : {S C : Type 0} → (S → C → Option S) → (S → C → Bool) → List (Option C) → (ℕ → Bool) → Configuration S → ℕ → Option (Configuration S)
 part_at effect reads pending inside c place = if inside place then eager_at effect reads pending c place else None
-
--- whether a place is marked
-abbrev pub is_marked : List Bool → ℕ → Bool
-is_marked marks place = slice_index_or marks place false
 
 -- a part that has the call at this place
 pub record IsPartOf {C : Type 0} (conflict : C → C → Bool) (pending : List (Option C)) (place : ℕ) (inside : ℕ → Bool) : Type 0 where

@@ -1,6 +1,7 @@
 //! The part of a call: the pending calls that matter at its end.
 ghost use Rattle.std.specs.Prelude.{◌≡◌, ◌<◌, ◌≤◌, ℕ, None, true, false, length, replicate, MatchOption};
-ghost use Rattle.history_object.specs.Parts.{HasAllOf, IsPartOf, is_marked};
+ghost use Rattle.history_object.specs.Parts.{HasAllOf, IsPartOf};
+ghost use Rattle.history_object.specs.Marks.{is_marked};
 ghost use Rattle.history_object.specs.Standings.{call_at};
 
 use crate::calls::Calls;

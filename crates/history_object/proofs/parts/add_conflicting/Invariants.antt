@@ -1,5 +1,5 @@
 use Rattle.std.proofs.Common.{◌≡◌, ℕ, ◌<◌, Some, false, true}
-use Rattle.history_object.specs.Parts.{is_marked}
+use Rattle.history_object.specs.Marks.{is_marked}
 use Rattle.history_object.specs.Standings.{call_at}
 use Rattle.history_object.proofs.parts.add_conflicting.Given as goal
 

@@ -1,6 +1,6 @@
-use Rattle.std.proofs.Common.{◌≡◌, ◌<◌, ◌∙◌, ℕ, List, Bool, false, true, length, slice_set, subst, sym, ap, arith}
+use Rattle.std.proofs.Common.{◌≡◌, ◌∙◌, List, Bool, false, true, length, sym, ap, arith}
 use Rattle.std.proofs.lemmas.List.{length-replicate, length-set}
-use Rattle.history_object.specs.Parts.{is_marked}
+use Rattle.history_object.specs.Marks.{is_marked}
 use Rattle.history_object.proofs.Inside.{looked_more, none_marked, one_less}
 use Rattle.history_object.proofs.OneEffect.{mark_here}
 use Rattle.history_object.proofs.parts.part_of.Goals as goal

@@ -1,5 +1,6 @@
 use Rattle.std.proofs.Common.{◌≡◌, ℕ, length, true}
-use Rattle.history_object.specs.Parts.{HasAllOf, is_marked}
+use Rattle.history_object.specs.Parts.{HasAllOf}
+use Rattle.history_object.specs.Marks.{is_marked}
 use Rattle.history_object.proofs.Inside.{unmarked_places}
 use Rattle.history_object.proofs.parts.part_of.Given as goal
 

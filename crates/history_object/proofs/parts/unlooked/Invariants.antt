@@ -1,5 +1,5 @@
 use Rattle.std.proofs.Common.{◌≡◌, ℕ, ◌<◌, true}
-use Rattle.history_object.specs.Parts.{is_marked}
+use Rattle.history_object.specs.Marks.{is_marked}
 use Rattle.history_object.proofs.parts.unlooked.Given as goal
 
 abbrev pub invariant-loop-place : goal.invariant-loop-place
