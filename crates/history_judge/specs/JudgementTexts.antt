@@ -5,8 +5,8 @@ use Rattle.history_object.specs.declared.faults.JudgeFault.{JudgeFault}
 use Rattle.history_object.specs.declared.faults.JudgeFault.TheVariants.{TooManyPending}
 use Rattle.history_in_order.specs.VerdictTexts.{verdict_text}
 use Rattle.history_overlaps.specs.declared.verdicts.CallVerdict.{CallVerdict}
-use Rattle.history_overlaps.specs.declared.verdicts.CallVerdict.TheVariants.{Linearizable, Flawed, Undecided}
-use Rattle.history_judge.specs.FlawTexts.{flaw_text}
+use Rattle.history_overlaps.specs.declared.verdicts.CallVerdict.TheVariants.{Linearizable, Misused, Flawed, Undecided}
+use Rattle.history_judge.specs.FlawTexts.{flaw_text, misuse_text}
 use Rattle.history_judge.specs.declared.judging.Judgement.{Judgement}
 use Rattle.history_judge.specs.declared.judging.Judgement.TheVariants.{InOrder, Overlapping}
 
@@ -18,6 +18,7 @@ undecided_text most fault = codes "more than" ++ number_field most ++ codes " co
 -- the text of a verdict on overlapping calls
 abbrev pub call_text : ℕ → CallVerdict → List ℕ
 call_text most (Linearizable entries) = codes "linearizable" ++ number_field entries ++ codes " entries"
+call_text most (Misused line misuse) = codes "line" ++ number_field line ++ codes ": no history: " ++ misuse_text misuse
 call_text most (Flawed line flaw) = codes "line" ++ number_field line ++ codes ": " ++ flaw_text flaw
 call_text most (Undecided line fault) = codes "undecided at line" ++ number_field line ++ codes ": " ++ undecided_text most fault
 

@@ -1,30 +1,38 @@
-//! The text of the reason why no order of effects explains a history.
+//! The text of the reason why calls are no history, or why no order of effects explains them.
 ghost use Rattle.std.specs.Prelude.{◌≡◌, ◌++◌, OnOk};
 ghost use Rattle.std.specs.List.{flat_map};
-ghost use Rattle.history_judge.specs.FlawTexts.{flaw_text, later_text, least_text, load_text, loads_text, possible_text, unexplained_text};
+ghost use Rattle.history_judge.specs.FlawTexts.{answer_text, flaw_text, later_text, least_text, load_text, loads_text, misuse_text, possible_text, unfair_text};
 
 use arrayvec::ArrayVec;
-use history_overlaps::{Flaw, Loads, OutsideLife, Possible, Unexplained};
+use history_overlaps::{Flaw, Loads, Misuse, Possible, Unexplained};
 use history_reading::RecordedReply;
 use model_words::{MAX_BYTES, Refusal};
 use std::alloc::AllocError;
 use text_words::{add_bytes, add_decimal, add_recorded};
+
+/// Appends the rule of use that a call breaks.
+pub(crate) fn add_misuse(text: &mut Vec<u8>, misuse: Misuse) -> Result<(), AllocError>
+    ensures { OnOk result (text.new.items ≡ text.old.items ++ misuse_text misuse) }
+{
+    match misuse {
+        Misuse::CellAgain => text.extend_from_slice(b"cell again"),
+        Misuse::NotAfterNew => text.extend_from_slice(b"not after its new"),
+        Misuse::NotBeforeFree => text.extend_from_slice(b"not before its free"),
+    }
+}
 
 /// Appends the reason why no order of effects explains a history.
 pub(crate) fn add_flaw(text: &mut Vec<u8>, flaw: &Flaw) -> Result<(), AllocError>
     ensures { OnOk result (text.new.items ≡ text.old.items ++ flaw_text flaw.now) }
 {
     match flaw {
-        Flaw::Outside(OutsideLife::NotAfterNew) => text.extend_from_slice(b"not after its new"),
-        Flaw::Outside(OutsideLife::NotBeforeFree) => text.extend_from_slice(b"not before its free"),
-        Flaw::CellAgain => text.extend_from_slice(b"cell again"),
         Flaw::SerialAgain => text.extend_from_slice(b"serial again"),
         Flaw::NoByte(answer) => {
-            add_answer(text, answer)?;
+            add_unfair(text, answer)?;
             add_recorded(text, &RecordedReply::Refused(Refusal::Zero))
         }
         Flaw::StrangeRefusal(refusal) => {
-            add_answer(text, &RecordedReply::Refused(*refusal))?;
+            add_unfair(text, &RecordedReply::Refused(*refusal))?;
             text.extend_from_slice(b"object")
         }
         Flaw::Overlaps(serial, number) => {
@@ -41,22 +49,35 @@ pub(crate) fn add_flaw(text: &mut Vec<u8>, flaw: &Flaw) -> Result<(), AllocError
 fn add_unexplained(text: &mut Vec<u8>, unexplained: &Unexplained) -> Result<(), AllocError>
     ensures { OnOk result
         (text.new.items ≡ text.old.items
-        ++ (unexplained_text unexplained.now.answer ++ possible_text unexplained.now.possible)) }
+        ++ (answer_text unexplained.now.answer ++ possible_text unexplained.now.possible)) }
 {
     add_answer(text, &unexplained.answer)?;
     match &unexplained.possible {
-        Possible::Only(answer) => add_recorded(text, answer),
-        Possible::Loads(loads) => add_loads(text, loads),
+        Possible::Only(answer) => {
+            text.extend_from_slice(b"; possible: ")?;
+            add_recorded(text, answer)
+        }
+        Possible::Loads(loads) => {
+            text.extend_from_slice(b"; possible if it took effect last: ")?;
+            add_loads(text, loads)
+        }
     }
 }
 
-/// Appends the text about an answer that no order of effects explains, up to and including `possible: `.
+/// Appends the text about an answer to a `new` that no order of effects explains, up to and including `possible: `.
+fn add_unfair(text: &mut Vec<u8>, answer: &RecordedReply) -> Result<(), AllocError>
+    ensures { OnOk result (text.new.items ≡ text.old.items ++ unfair_text answer.now) }
+{
+    add_answer(text, answer)?;
+    text.extend_from_slice(b"; possible: ")
+}
+
+/// Appends an answer that no order of effects explains.
 fn add_answer(text: &mut Vec<u8>, answer: &RecordedReply) -> Result<(), AllocError>
-    ensures { OnOk result (text.new.items ≡ text.old.items ++ unexplained_text answer.now) }
+    ensures { OnOk result (text.new.items ≡ text.old.items ++ answer_text answer.now) }
 {
     text.extend_from_slice(b"no order explains ")?;
-    add_recorded(text, answer)?;
-    text.extend_from_slice(b"; possible: ")
+    add_recorded(text, answer)
 }
 
 /// Appends the bytes that the load could return, one item for each possibility, and ` | ..` if there are more.

@@ -2,7 +2,7 @@
 ghost use Rattle.std.specs.Prelude.{◌≡◌, ◌++◌, IfOk, OnOk};
 ghost use Rattle.history_judge.specs.JudgementTexts.{call_text, judgement_text, undecided_text};
 
-use crate::flaw_texts::add_flaw;
+use crate::flaw_texts::{add_flaw, add_misuse};
 use crate::judging::Judgement;
 use history_in_order::verdict_line;
 use history_object::JudgeFault;
@@ -39,6 +39,12 @@ fn add_verdict(text: &mut Vec<u8>, verdict: &CallVerdict, most: u32) -> Result<(
             text.extend_from_slice(b"linearizable ")?;
             add_decimal(text, u64::from(*entries))?;
             text.extend_from_slice(b" entries")
+        }
+        CallVerdict::Misused(line, misuse) => {
+            text.extend_from_slice(b"line ")?;
+            add_decimal(text, u64::from(*line))?;
+            text.extend_from_slice(b": no history: ")?;
+            add_misuse(text, *misuse)
         }
         CallVerdict::Flawed(line, flaw) => {
             text.extend_from_slice(b"line ")?;

@@ -22,21 +22,27 @@ use Rattle.history_reading.specs.CallReadings.{CallFault, CallLine, CallReading,
 use Rattle.history_reading.specs.declared.faults.CallError.{CallError}
 use Rattle.history_reading.specs.declared.faults.CallError.TheVariants.{Text, Order, Read, Memory}
 use Rattle.history_reading.specs.declared.call_inputs.CallInput.{CallInput}
-use Rattle.history_overlaps.specs.Checks.{HasJudged, HasNotJudged, IsKept, IsTold, IsUnexplainedText}
+use Rattle.history_overlaps.specs.Checks.{HasJudged, HasNotJudged, IsJudgedAtEnd, IsJudgedBefore, IsKept, IsTold}
 use Rattle.history_overlaps.specs.Ends.{AreEnded, IsRuledOut, NoneBefore, Past}
-use Rattle.history_overlaps.specs.Lives.{BeginFrom, CannotBe}
+use Rattle.history_overlaps.specs.Flaws.{IsFlawAt}
+use Rattle.history_overlaps.specs.Lives.{BeginFrom}
+use Rattle.history_overlaps.specs.Misuses.{IsMisusedAt}
 use Rattle.history_overlaps.specs.Queues.{MayBegin, key_of}
 use Rattle.history_overlaps.specs.Standing.{Stands, lives_of, starts_of, waits_of}
-use Rattle.history_overlaps.specs.Timelines.{FewOpen, Holds, StartsWaiting}
+use Rattle.history_overlaps.specs.Timelines.{FewOpen, StartsWaiting}
+use Rattle.history_overlaps.specs.declared.flaws.Flaw.{Flaw}
+use Rattle.history_overlaps.specs.declared.misuses.Misuse.{Misuse}
+use Rattle.history_overlaps.specs.declared.misuses.Misuse.TheVariants.{CellAgain, NotAfterNew, NotBeforeFree}
 use Rattle.history_overlaps.specs.declared.pending.Pending.{Pending}
 use Rattle.history_overlaps.specs.declared.stops.Found.{Found}
 use Rattle.history_overlaps.specs.declared.stops.Stop.{Stop}
 use Rattle.history_overlaps.specs.declared.timeline.Timeline.{Timeline}
 use Rattle.history_overlaps.specs.declared.verdicts.CallVerdict.{CallVerdict}
-use Rattle.history_overlaps.specs.declared.verdicts.CallVerdict.TheVariants.{Linearizable, Flawed, Undecided}
+use Rattle.history_overlaps.specs.declared.verdicts.CallVerdict.TheVariants.{Linearizable, Misused, Flawed, Undecided}
 use Rattle.history_number_set.specs.Ranges.{Has}
+use Rattle.history_overlaps.proofs.BegunWrong.{none_goes_on}
 use Rattle.history_overlaps.proofs.CallPlaces.{at_below, at_end, at_front, at_one, at_same}
-use Rattle.history_overlaps.proofs.Finish.{is_explained, is_history}
+use Rattle.history_overlaps.proofs.Finish.{is_explained}
 use Rattle.history_overlaps.proofs.LivesWrong.{all_at}
 use Rattle.history_overlaps.proofs.QueueSteps.{small_place}
 use Rattle.history_overlaps.proofs.AccessOrders.{tells}
@@ -134,26 +140,86 @@ read_behind lines calls (line ∷ next ∷ more) =
 
 -- ---- verdicts of texts
 
--- no text that begins so is explained, where no history goes on from its last call on
-pub unexplained_text : (history : CallInput) (left left' : Option (List ℕ)) (calls : List Call) (call : Call) → HasCome history left left' (calls ++ call ∷ []) → CannotBe calls call.begin
-    → (text : List ℕ) × Consumes left left' text × ((more : List ℕ) → IsUnexplainedText (text ++ more))
-unexplained_text history left left' calls call come cannot = (
-  come.come.text,
-  come.come.taken,
-  λ more history_of_all linear.
-      let parts = some_part 10 (unread_of history.lines ++ more) in
-      let reading : calls_of (come.come.text ++ more) ≡ calls_from (length come.lines) (calls ++ call ∷ []) (parts.first ∷ parts.later) =
-      ap (calls_from 0 []) (come.come.reads more ∙ ap (λ (behind : List (List ℕ)). come.lines ++ behind) parts.is) ∙ come.read.reads parts.first parts.later in
-      let behind = read_behind (length come.lines) (calls ++ call ∷ []) (parts.first ∷ parts.later) in
-      let are : (calls_of (come.come.text ++ more)).calls ≡ calls ++ call ∷ behind.later =
-      ap (λ (r : CallReading). r.calls) reading ∙ behind.are ∙ append_assoc calls (call ∷ []) behind.later in
-      let all_history = subst IsHistory are history_of_all in
-      cannot (call ∷ behind.later) (from behind) all_history (explained (calls ++ call ∷ behind.later) all_history (subst IsLinearizable are linear)),
-)
+-- what is read of a text that begins with the lines that were read: the calls so far, the last one, and calls that begin
+-- no earlier
+pub record HasReadOn (text : List ℕ) (calls : List Call) (call : Call) (more : List ℕ) : Type 0 where
+  pub later : List Call
+  pub are : (calls_of (text ++ more)).calls ≡ calls ++ call ∷ later
+  pub from : BeginFrom call.begin (call ∷ later)
+
+pub read_on_from : (history : CallInput) (left left' : Option (List ℕ)) (calls : List Call) (call : Call) (come : HasCome history left left' (calls ++ call ∷ [])) (more : List ℕ)
+    → HasReadOn come.come.text calls call more
+read_on_from history left left' calls call come more =
+    let parts = some_part 10 (unread_of history.lines ++ more) in
+    let reading : calls_of (come.come.text ++ more) ≡ calls_from (length come.lines) (calls ++ call ∷ []) (parts.first ∷ parts.later) =
+    ap (calls_from 0 []) (come.come.reads more ∙ ap (λ (behind : List (List ℕ)). come.lines ++ behind) parts.is) ∙ come.read.reads parts.first parts.later in
+    let behind = read_behind (length come.lines) (calls ++ call ∷ []) (parts.first ∷ parts.later) in
+    record {
+      later = behind.later;
+      are = ap (λ (r : CallReading). r.calls) reading ∙ behind.are ∙ append_assoc calls (call ∷ []) behind.later;
+      from = from behind;
+    }
   where
     from : {lines : ℕ} {rest : List (List ℕ)} (behind : ReadBehind lines (calls ++ call ∷ []) rest) → BeginFrom call.begin (call ∷ behind.later)
     from behind zero a is = let same : call ≡ a = cc is in subst (λ (c : Call). call.begin ≤ c.begin) same (omega arith)
     from behind (suc j) a is = behind.in_order (length calls) j call a (at_end calls call) is
+
+-- what is told before a call begins is told of the text
+pub judged_before : (history : CallInput) (left left' : Option (List ℕ)) (calls : List Call) (call : Call) → HasCome history left left' (calls ++ call ∷ [])
+    → (verdict : CallVerdict) → IsJudgedBefore calls call verdict → HasJudged left left' verdict
+judged_before history left left' calls call come (Linearizable entries) told = absurd told
+judged_before history left left' calls call come (Undecided line fault) told = absurd told
+judged_before history left left' calls call come (Misused line misuse) told = (
+  come.come.text,
+  come.come.taken,
+  record {
+    calls = calls ++ call ∷ [];
+    number = told.0;
+    in_line = told.1;
+    misused = told.2;
+    first = λ more. let on = read_on_from history left left' calls call come more in (on.later, on.are ∙ sym (append_assoc calls (call ∷ []) on.later));
+    none = λ more is_history.
+        let on = read_on_from history left left' calls call come more in
+        told.3 on.later (λ j a is. on.from (suc j) a is) (subst IsHistory (on.are ∙ sym (append_assoc calls (call ∷ []) on.later)) is_history);
+  },
+)
+judged_before history left left' calls call come (Flawed line flaw) told = (
+  come.come.text,
+  come.come.taken,
+  record {
+    calls = calls;
+    number = told.0;
+    in_line = told.1;
+    history = told.2;
+    flawed = told.3;
+    unexplained = inl (λ more. let on = read_on_from history left left' calls call come more in (
+      (call ∷ on.later, on.are),
+      λ history_of_all linear.
+          let all_history = subst IsHistory on.are history_of_all in
+          told.4 (call ∷ on.later) on.from all_history (explained (calls ++ call ∷ on.later) all_history (subst IsLinearizable on.are linear)),
+    ));
+  },
+)
+
+-- what is told when all calls have ended is told of the text
+pub judged_at_end : (left left' : Option (List ℕ)) (text : List ℕ) (calls : List Call) → Consumes left left' text → IsAtEnd left'
+    → calls_of text ≡ record { calls = calls; fault = None } → (verdict : CallVerdict) → IsJudgedAtEnd calls verdict → HasJudged left left' verdict
+judged_at_end left left' text calls taken at_end is (Linearizable entries) told = absurd told
+judged_at_end left left' text calls taken at_end is (Misused line misuse) told = absurd told
+judged_at_end left left' text calls taken at_end is (Undecided line fault) told = absurd told
+judged_at_end left left' text calls taken at_end is (Flawed line flaw) told =
+    let are : (calls_of text).calls ≡ calls = ap (λ (r : CallReading). r.calls) is in (
+      text,
+      taken,
+      record {
+        calls = calls;
+        number = told.0;
+        in_line = told.1;
+        history = told.2;
+        flawed = told.3;
+        unexplained = inr ((([], are ∙ sym (append-nil calls)), λ history linear. told.4 (subst IsLinearizable are linear)), at_end);
+      },
+    )
 
 -- ---- what is kept
 
@@ -185,7 +251,7 @@ module _ (old : Timeline) (calls : List Call) (kept : IsKept old calls) where
   module _ (mid new : Timeline) (call : Call) (are : AreEnded old mid call.begin) (none : NoneBefore (waits_of mid) call.begin) (in_order : is_in_order calls call ≡ true)
       (takes_time : call.begin ≤ call.end) (ends : call.end < 2 ^ 64) (effect : HasEffect call.entry.command call.entry.reply) (cell : cell_at call < many_cells)
       (room : length calls < 4294967296) where
-    may_begin : MayBegin calls (waits_of mid) call
+    pub may_begin : MayBegin calls (waits_of mid) call
     may_begin = record {
       takes_time = takes_time;
       has_effect = effect;
@@ -214,32 +280,58 @@ module _ (old : Timeline) (calls : List Call) (kept : IsKept old calls) where
 
   -- every call has ended
   pub kept_finished : (new : Timeline) → AreEnded old new (2 ^ 64) → NoneBefore (waits_of new) (2 ^ 64) → IsHistory calls × IsLinearizable calls
-  kept_finished new are none = elim (are.stands calls kept.stands) [
-    | inr doomed ↦ absurd (
-        let due = doomed.due in let late = none (key_of due.call due.place) due.pending due.waiting in
-        let end = (kept.ends due.place due.call due.there).1 in let below = at_below calls due.place due.call due.there in let many = kept.many in omega (arith, late, end, below, many))
-    | inl holds ↦
-        let nothing : (key : ℕ) → waits_of new key ≡ None = (λ key. no_wait holds key (waits_of new key) refl) in
-        let history = is_history calls (waits_of new) (lives_of new) (starts_of new) (Has new.cells) (Has new.serials) (Has new.freed_twice) holds nothing in
-        (history, linearizable calls history (is_explained calls (waits_of new) (lives_of new) (starts_of new) (Has new.cells) (Has new.serials) (Has new.freed_twice) holds nothing))
-  ]
+  kept_finished new are none =
+      let holds = are.stands calls kept.stands in
+      let nothing : (key : ℕ) → waits_of new key ≡ None = (λ key. no_wait holds key (waits_of new key) refl) in
+      (holds.history, linearizable calls holds.history (is_explained calls (waits_of new) (lives_of new) (starts_of new) (Has new.cells) (Has new.serials) (Has new.freed) holds nothing))
     where
-      no_wait : Holds calls (waits_of new) (lives_of new) (starts_of new) (Has new.cells) (Has new.serials) (Has new.freed_twice) → (key : ℕ) (w : Option Pending)
-          → waits_of new key ≡ w → waits_of new key ≡ None
+      no_wait : Stands calls new → (key : ℕ) (w : Option Pending) → waits_of new key ≡ w → waits_of new key ≡ None
       no_wait holds key None is = is
       no_wait holds key (Some p) is = absurd (
           let at = holds.queue.keyed key p is in let late = none key p is in let k = at.is_key in
           let end = (kept.ends at.place at.call at.there).1 in let small = small_place calls (waits_of new) holds.queue at.place at.call at.there in omega (arith, late, k, end, small))
 
-  pub kept_flawed : IsRuledOut old (2 ^ 64) → IsHistory calls → IsLinearizable calls → ⊥
-  kept_flawed out history linear =
-      out calls kept.stands (λ i a is. let e = kept.ends i a is in let b = e.0 in let c = e.1 in omega (arith, b, c))
-      [] (λ i a is. absurd (nowhere i a is)) (subst IsHistory (sym (append-nil calls)) history)
-      (subst IsExplainedByObject (sym (append-nil calls)) (explained calls history linear))
+  -- the place of a flaw
+  pub flaw_below : (number : ℕ) (flaw : Flaw) → IsFlawAt calls number flaw → number < length calls
+  flaw_below number flaw at = at_below calls number at.0 at.1
+
+  -- a flaw is found before a call in order begins
+  pub kept_flawed_before : (call : Call) (found : Found) → IsRuledOut old call.begin found
+      → IsJudgedBefore calls call (Flawed (found.number + 2) found.flaw)
+  kept_flawed_before call found out = let told = out calls kept.stands in (found.number, refl, kept.stands.history, told.0, told.1)
+
+  -- a flaw is found at the end
+  pub kept_flawed : (found : Found) → IsRuledOut old (2 ^ 64) found → IsJudgedAtEnd calls (Flawed (found.number + 2) found.flaw)
+  kept_flawed found out =
+      let told = out calls kept.stands in let history = kept.stands.history in (
+        found.number,
+        refl,
+        history,
+        told.0,
+        λ linear. told.1 [] (λ i a is. absurd (nowhere i a is)) (subst IsHistory (sym (append-nil calls)) history)
+            (subst IsExplainedByObject (sym (append-nil calls)) (explained calls history linear)),
+      )
     where
       nowhere : (i : ℕ) (a : Call) → IsAt [] i a → ⊥
       nowhere zero a at = cc at
       nowhere (suc i) a at = cc at
+
+-- the place of a call that breaks a rule
+pub misused_below : (calls : List Call) (number : ℕ) (misuse : Misuse) → IsMisusedAt calls number misuse → number < length calls
+misused_below calls number CellAgain at = at_below calls number at.call at.there
+misused_below calls number NotAfterNew at = at_below calls number at.call at.there
+misused_below calls number NotBeforeFree at = at_below calls number at.call at.there
+
+-- a rule is broken where a call in order begins
+pub misused_before : (calls : List Call) (call : Call) (number : ℕ) (misuse : Misuse) → IsMisusedAt (calls ++ call ∷ []) number misuse → is_in_order calls call ≡ true
+    → IsJudgedBefore calls call (Misused (number + 2) misuse)
+misused_before calls call number misuse at in_order = (number, refl, at, none_goes_on (calls ++ call ∷ []) number misuse call.begin at begun)
+  where
+    begun : (i : ℕ) (a : Call) → IsAt (calls ++ call ∷ []) i a → a.begin ≤ call.begin
+    begun i a is = elim (at_one calls call i a is) [
+      | inl old ↦ begins_behind calls call in_order i a old
+      | inr new ↦ subst (λ (b : Call). b.begin ≤ call.begin) new.1 (omega arith)
+    ]
 
 -- a call that has begun has not ended
 pub past_begun : (calls : List Call) (call : Call) (waits waits' : ℕ → Option Pending) (moment : ℕ) (pending : Pending) → length calls < 4294967296
@@ -257,12 +349,12 @@ past_begun calls call waits waits' moment pending room starting past i a over is
 -- ---- verdicts
 
 -- a verdict is told of what was found
-pub judged_by : (left left' : Option (List ℕ)) (found : Result (Option Found) Stop) (P : Type 0) → IfOk found (λ f. IfSome f (λ _. P))
-    → (P → (text : List ℕ) × Consumes left left' text × (((more : List ℕ) → IsUnexplainedText (text ++ more)) ⊎ (IsUnexplainedText text × IsAtEnd left')))
-    → (verdict : CallVerdict) → IsTold found verdict → HasJudged left left' verdict
-judged_by left left' found P h judge (Linearizable entries) told = absurd told
-judged_by left left' found P h judge (Flawed line flaw) told = judge (subst (λ (r : Result (Option Found) Stop). IfOk r (λ f. IfSome f (λ _. P))) told.1 h)
+pub judged_by : (left left' : Option (List ℕ)) (found : Result (Option CallVerdict) Stop) (P : CallVerdict → Type 0) → IfOk found (λ f. IfSome f P)
+    → ((verdict : CallVerdict) → P verdict → HasJudged left left' verdict) → (verdict : CallVerdict) → IsTold found verdict → HasJudged left left' verdict
 judged_by left left' found P h judge (Undecided line fault) told = tt
+judged_by left left' found P h judge (Linearizable entries) told = judge (Linearizable entries) (subst (λ (r : Result (Option CallVerdict) Stop). IfOk r (λ f. IfSome f P)) told h)
+judged_by left left' found P h judge (Misused line misuse) told = judge (Misused line misuse) (subst (λ (r : Result (Option CallVerdict) Stop). IfOk r (λ f. IfSome f P)) told h)
+judged_by left left' found P h judge (Flawed line flaw) told = judge (Flawed line flaw) (subst (λ (r : Result (Option CallVerdict) Stop). IfOk r (λ f. IfSome f P)) told h)
 
 -- the fault of a text
 pub not_judged : (left left' : Option (List ℕ)) (calls : List Call) (error : CallError) → HasStopped left left' calls error → HasNotJudged left left' error

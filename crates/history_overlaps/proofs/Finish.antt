@@ -1,13 +1,10 @@
--- Where every call has ended, the calls are a history that is explained.
-use Rattle.std.proofs.Common.{◌≡◌, ℕ, ◌<◌, ◌⊎◌, inl, inr, true, List, [], map, replicate, arith, refl, sym, subst, ◌∙◌, ap, Option, Some, None, option_map}
+-- Where every call has ended, the calls are explained by object.
+use Rattle.std.proofs.Common.{◌≡◌, ℕ, inl, inr, true, List, [], map, replicate, arith, refl, sym, subst, ◌∙◌, ap, Option, Some, None, option_map}
 use Rattle.std.specs.List.Sorted.{IsPermutation}
-use Rattle.std.proofs.lemmas.Bool.Decides.{eqb_tells}
 use Rattle.std.proofs.lemmas.List.Sorted.{IsPermutation-refl}
-use Rattle.model_words.specs.declared.commands.Command.{Command}
-use Rattle.model_words.specs.declared.commands.Command.TheVariants.{New}
 use Rattle.model_intervals.specs.Intervals.{Call}
 use Rattle.model_intervals.specs.Objects.{Object as AnObject, IsExplainedByObject, IsFairNew, accesses_of}
-use Rattle.model_intervals.specs.OverlappingCalls.{IsAt, IsFree, IsHistory, IsNew}
+use Rattle.model_intervals.specs.OverlappingCalls.{IsAt}
 use Rattle.history_overlaps.specs.Accesses.{is_access_of}
 use Rattle.history_overlaps.specs.Judges.{AccessJudge, IsExplained, IsJudged, live_of}
 use Rattle.history_overlaps.specs.declared.life.Life.{Life}
@@ -17,9 +14,7 @@ use Rattle.history_overlaps.specs.declared.objects.NewObject.{NewObject}
 use Rattle.history_overlaps.specs.declared.pending.Pending.{Pending}
 use Rattle.history_overlaps.proofs.AccessOrders.{accesses_are, call_at}
 use Rattle.history_overlaps.proofs.BegunSteps.{all_places}
-use Rattle.history_overlaps.proofs.CallPlaces.{at_same}
 use Rattle.history_overlaps.proofs.Follows.{idle_explained}
-use Rattle.history_overlaps.proofs.LivesWrong.{maker_by_new}
 
 -- the life of a live object
 pub life_of : (lives : ℕ → Option Life) (c : ℕ) (x : AnObject) → live_of lives c ≡ Some x → (life : Life) × (lives c ≡ Some life) × (object_of life.object ≡ x)
@@ -30,10 +25,6 @@ life_of lives c x is = found (lives c) refl is
     found None none at = absurd (let at' = subst (λ (o : Option Life). option_map (λ life. object_of life.object) o ≡ Some x) none at in cc at')
     found (Some life) some at =
         (life, some, let at' = subst (λ (o : Option Life). option_map (λ life. object_of life.object) o ≡ Some x) some at in cc at')
-
-new_or_not : (command : Command) → IsNew command ⊎ (IsNew command → ⊥)
-new_or_not (New cell len word) = inl tt
-new_or_not command = inr (λ is_new. is_new)
 
 -- some order explains the accesses to an object of which none waits
 pub idle_object : (calls : List Call) (waits : ℕ → Option Pending) (object : NewObject) (judge : Option AccessJudge) → IsJudged calls waits object judge
@@ -50,35 +41,10 @@ idle_object calls waits object None none idle =
     )
 idle_object calls waits object (Some judge) follows idle = idle_explained calls waits object judge follows idle
 
-module _ (calls : List Call) (waits : ℕ → Option Pending) (lives : ℕ → Option Life) (starts : ℕ → Option ℕ) (cells serials twice : ℕ → Type 0)
-    (h : Holds calls waits lives starts cells serials twice) (none : (key : ℕ) → waits key ≡ None) where
+module _ (calls : List Call) (waits : ℕ → Option Pending) (lives : ℕ → Option Life) (starts : ℕ → Option ℕ) (cells serials freed : ℕ → Type 0)
+    (h : Holds calls waits lives starts cells serials freed) (none : (key : ℕ) → waits key ≡ None) where
   over : (i : ℕ) (a : Call) → IsAt calls i a → HasEnded calls waits i
   over i a is = (a, is, none (key_of a i))
-
-  pub is_history : IsHistory calls
-  is_history = record {
-    take_time = h.begun.take_time;
-    have_effects = h.begun.have_effects;
-    have_cells = h.begun.have_cells;
-    own_cells = λ i j a b apart at_i at_j. h.living.own_cells i j a b apart (over i a at_i) (over j b at_j) at_i at_j;
-    after_new = h.begun.after_new;
-    before_free = λ i j a free apart at_i at_j frees same. elim (new_or_not a.entry.command) [
-      | inr other ↦ h.begun.before_free i j a free apart at_i at_j other frees same
-      | inl is_new ↦
-          let before = h.begun.after_new j free at_j (free_is_no_new free.entry.command frees) in
-          let one : before.place ≡ i = elim (eqb_tells before.place i) [
-            | inl one ↦ one.1
-            | inr two ↦ absurd (h.living.own_cells before.place i before.call a two.1 (over before.place before.call before.there) (over i a at_i) before.there at_i
-                (maker_by_new before.call.entry.command before.call.entry.reply before.makes) is_new (before.names ∙ sym same))
-          ] in
-          let this = at_same calls i before.call a (subst (λ (q : ℕ). IsAt calls q before.call) one before.there) at_i in
-          subst (λ (b : Call). b.end < free.begin) this before.ended
-    ];
-  }
-    where
-      free_is_no_new : (command : Command) → IsFree command → IsNew command → ⊥
-      free_is_no_new (New cell len word) frees new = frees
-      free_is_no_new command frees new = new
 
   pub is_explained : IsExplainedByObject calls
   is_explained = record {

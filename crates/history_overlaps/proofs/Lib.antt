@@ -10,6 +10,7 @@ mod EndRanges
 mod EndSteps
 mod Fair
 mod Finish
+mod FirstAccess
 mod FirstToEnd
 mod Follows
 mod Grouping

@@ -1,16 +1,18 @@
 -- Accesses to a live object begin and end: its judge follows them.
-use Rattle.std.proofs.Common.{◌≡◌, ◌≢◌, ◌↔◌, ℕ, ◌+◌, option_map, ◌<◌, inl, inr, Bool, true, false, List, [], ◌∷◌, ◌++◌, length, arith, refl, sym, subst, ◌∙◌, ap, Option, Some, None}
+use Rattle.std.proofs.Common.{◌≡◌, ◌≢◌, ◌↔◌, ℕ, zero, suc, ◌+◌, option_map, ◌<◌, inl, inr, Bool, true, false, List, [], ◌∷◌, ◌++◌, length, arith, refl, sym, subst, ◌∙◌, ap, Option, Some, None}
 use Rattle.std.proofs.lemmas.Bool.Decides.{eqb_tells}
+use Rattle.std.proofs.lemmas.List.{append-nil}
 use Rattle.model_intervals.specs.Intervals.{Call}
-use Rattle.model_intervals.specs.Objects.{is_access}
+use Rattle.model_intervals.specs.Objects.{IsMadeAt, is_access}
 use Rattle.model_intervals.specs.OverlappingCalls.{IsAt, cell_at}
 use Rattle.history_object.specs.ObjectBytes.{effect, first_state}
 use Rattle.history_object.specs.declared.access.Access.{Access as AnAccess}
 use Rattle.history_object.specs.Following.{IsJudgeOf, IsOpen}
 use Rattle.history_overlaps.specs.Accesses.{access_of, is_access_of, timed_accesses}
-use Rattle.history_overlaps.specs.Judges.{AccessJudge, IsFollowed, IsJudged, live_of}
+use Rattle.history_overlaps.specs.Judges.{AccessJudge, IsExplained, IsFollowed, IsJudged, live_of}
 use Rattle.history_overlaps.specs.LifeSteps.{HasBegun, HasEndedAt}
-use Rattle.history_overlaps.specs.Lives.{CannotBe}
+use Rattle.history_overlaps.specs.Flaws.{IsOfNoOrder}
+use Rattle.history_overlaps.specs.Lives.{BeginFrom, CannotBe, IsMade}
 use Rattle.history_overlaps.specs.Queues.{HasEnded, IsWaiting, MayBegin, Queue, Suits, WaitsAt, key_of, object_of}
 use Rattle.history_overlaps.specs.Timelines.{FewOpen, Holds, StartsWaiting, StopsWaiting}
 use Rattle.history_overlaps.specs.declared.life.Life.{Life}
@@ -52,13 +54,13 @@ module _ (calls : List Call) (call : Call) (waits waits' : ℕ → Option Pendin
 -- ---- an access ends
 
 module _ (calls : List Call) (waits waits' : ℕ → Option Pending) (key : ℕ) (pending : Pending) (stop : StopsWaiting waits waits' key pending)
-    (lives : ℕ → Option Life) (starts : ℕ → Option ℕ) (cells serials twice : ℕ → Type 0) (h : Holds calls waits lives starts cells serials twice)
+    (lives : ℕ → Option Life) (starts : ℕ → Option ℕ) (cells serials freed : ℕ → Type 0) (h : Holds calls waits lives starts cells serials freed)
     (cell : ℕ) (is_access_end : pending ≡ Access cell) where
   abbrev at : WaitsAt calls key pending
-  at = this calls waits waits' key pending stop lives starts cells serials twice h
+  at = this calls waits waits' key pending stop lives starts cells serials freed h
 
   own : (is_access at.call.entry.command ≡ true) × (cell_at at.call ≡ cell)
-  own = subst (λ (p : Pending). Suits at.call p) is_access_end at.suits
+  own = subst (λ (p : Pending). Suits at.call at.place p) is_access_end at.suits
 
   module _ (life : Life) (alive : lives cell ≡ Some life) where
     object_cell : life.object.cell ≡ cell
@@ -71,7 +73,7 @@ module _ (calls : List Call) (waits waits' : ℕ → Option Pending) (key : ℕ)
     pub access_is_open : (judge : AccessJudge) → life.judge ≡ Some judge → IsOpen judge at.place
     access_is_open judge is =
         let judged = subst (λ (j : Option AccessJudge). IsJudged calls waits life.object j) is (h.judges.judged cell life alive) in
-        (judged.is_open at.place at.call at.there accesses).1 (waiting calls waits waits' key pending stop lives starts cells serials twice h)
+        (judged.is_open at.place at.call at.there accesses).1 (waiting calls waits waits' key pending stop lives starts cells serials freed h)
 
     module _ (new : Life) (left : Bool) (ended : HasEndedAt life new at.place left) (same : new.object ≡ life.object) where
       followed : IsFollowed calls waits life.object ended.first
@@ -82,16 +84,16 @@ module _ (calls : List Call) (waits waits' : ℕ → Option Pending) (key : ℕ)
 
       -- some configuration is left
       pub access_end_holds : (lives' : ℕ → Option Life) → left ≡ true → lives' cell ≡ Some new → ((c : ℕ) → c ≢ cell → lives' c ≡ lives c)
-          → Holds calls waits' lives' starts cells serials twice
+          → Holds calls waits' lives' starts cells serials freed
       access_end_holds lives' some now_lives others = record {
-        queue = queue calls waits waits' key pending stop lives starts cells serials twice h;
-        begun = h.begun;
-        living = lives_turned calls (HasEnded calls waits') (live_of lives) (live_of lives') cells serials live_same
+        queue = queue calls waits waits' key pending stop lives starts cells serials freed h;
+        history = h.history;
+        living = lives_turned calls (HasEnded calls waits') (live_of lives) (live_of lives') serials live_same
             (another_ends calls (HasEnded calls waits) (HasEnded calls waits') at.place at.call at.there
-            (split calls waits waits' key pending stop lives starts cells serials twice h)
-            (keep calls waits waits' key pending stop lives starts cells serials twice h)
-            (now calls waits waits' key pending stop lives starts cells serials twice h)
-            (access_is_no_new at.call.entry.command own.0) (live_of lives) cells serials h.living);
+            (split calls waits waits' key pending stop lives starts cells serials freed h)
+            (keep calls waits waits' key pending stop lives starts cells serials freed h)
+            (now calls waits waits' key pending stop lives starts cells serials freed h)
+            (access_is_no_new at.call.entry.command own.0) (live_of lives) serials h.living);
         judges = access_ends calls waits waits' key pending h.queue stop.was stop.gone stop.others lives lives' h.judges cell own.0 own.1 in_cell
             (λ l is. let one : new ≡ l = cc (now_lives, is) in subst (λ (k : Life). IsJudged calls waits' k.object k.judge) one judged)
             others (new, now_lives);
@@ -105,7 +107,10 @@ module _ (calls : List Call) (waits waits' : ℕ → Option Pending) (key : ℕ)
           )
           | inr two ↦ (s.0, others c two.1 ∙ s.1, s.2)
         ];
-        none_twice = h.none_twice;
+        numbered = λ c l is. let g = old c l is in subst (λ (o : NewObject). (b : Call) × IsMadeAt calls o.number b (object_of o)) g.2 (h.numbered c g.0 g.1);
+        has_cell = h.has_cell;
+        of_cell = h.of_cell;
+        freed_is = h.freed_is;
       }
         where
           old : (c : ℕ) (l : Life) → lives' c ≡ Some l → (k : Life) × (lives c ≡ Some k) × (k.object ≡ l.object)
@@ -133,17 +138,14 @@ module _ (calls : List Call) (waits waits' : ℕ → Option Pending) (key : ℕ)
           judged : IsJudged calls waits' new.object new.judge
           judged = subst (λ (o : NewObject). IsJudged calls waits' o new.judge) (sym same)
               (subst (λ (j : Option AccessJudge). IsJudged calls waits' life.object j) (sym ended.now)
-              (follow_end calls waits waits' at.place at.call life.object at.there (waiting calls waits waits' key pending stop lives starts cells serials twice h)
+              (follow_end calls waits waits' at.place at.call life.object at.there (waiting calls waits waits' key pending stop lives starts cells serials freed h)
               (it_waits_no_more calls waits waits' key pending h.queue stop.was stop.gone stop.others lives lives h.judges)
               (others_wait calls waits waits' key pending h.queue stop.was stop.gone stop.others lives lives h.judges)
               ended.first ended.judge followed judge_follows (ended.some.0 some) ended.is_open))
 
       -- none is left
-      pub access_end_wrong : left ≡ false → (moment : ℕ) → at.call.end < moment → CannotBe calls moment
-      access_end_wrong none moment early more later history explained =
-          let l = h.living.live_is cell (object_of life.object) (ap (λ (o : Option Life). option_map (λ k. object_of k.object) o) alive) in
-          let m = l.2 in
-          let order = explained.each m.place m.call (object_of life.object) (made_front calls more m.place m.call (object_of life.object) m.there) in
+      none_with_more : left ≡ false → (moment : ℕ) → at.call.end < moment → (more : List Call) → BeginFrom moment more → IsExplained (calls ++ more) (object_of life.object) → ⊥
+      none_with_more none moment early more later order =
           none_explained calls more waits' life.object ended.judge judge_follows
           (λ some. let yes = ended.some.1 some in cc (yes, none))
           over moment past later order.0 order.1
@@ -165,12 +167,35 @@ module _ (calls : List Call) (waits waits' : ℕ → Option Pending) (key : ℕ)
                   closed ((ended.is_open i).1 ((followed.is_open i a is access).1 both.0, both.1)))
 
           past : (i : ℕ) (a : Call) → HasEnded calls waits' i → IsAt calls i a → a.end < moment
-          past i a done is = elim (split calls waits waits' key pending stop lives starts cells serials twice h i done) [
-            | inl before ↦ let first = in_order calls waits waits' key pending stop lives starts cells serials twice h i a before is in omega (arith, first, early)
+          past i a done is = elim (split calls waits waits' key pending stop lives starts cells serials freed h i done) [
+            | inl before ↦ let first = in_order calls waits waits' key pending stop lives starts cells serials freed h i a before is in omega (arith, first, early)
             | inr here ↦
                 let one = at_same calls at.place at.call a at.there (subst (λ (n : ℕ). IsAt calls n a) here is) in
                 subst (λ (b : Call). b.end < moment) one early
           ]
+
+      made : IsMade calls (HasEnded calls waits) (object_of life.object)
+      made = (h.living.live_is cell (object_of life.object) (ap (λ (o : Option Life). option_map (λ k. object_of k.object) o) alive)).2
+
+      pub access_end_wrong : left ≡ false → (moment : ℕ) → at.call.end < moment → CannotBe calls moment
+      access_end_wrong none moment early more later history explained = none_with_more none moment early more later
+          (explained.each made.place made.call (object_of life.object) (made_front calls more made.place made.call (object_of life.object) made.there))
+
+      pub access_unexplained_now : left ≡ false → IsOfNoOrder calls at.call
+      access_unexplained_now none = record {
+        accesses = own.0;
+        place = made.place;
+        maker = made.call;
+        object = object_of life.object;
+        made = made.there;
+        of_call = object_cell ∙ sym own.1;
+        unexplained = λ order. none_with_more none (at.call.end + 1) (omega arith) [] (λ i a is. absurd (nowhere i a is))
+            (subst (λ (cs : List Call). IsExplained cs (object_of life.object)) (sym (append-nil calls)) order);
+      }
+        where
+          nowhere : (i : ℕ) (a : Call) → IsAt [] i a → ⊥
+          nowhere zero a is = cc is
+          nowhere (suc i) a is = cc is
 
 -- ---- what is open is of small numbers
 

@@ -30,21 +30,11 @@ module _ (calls : List Call) (call : Call) (ended : ℕ → Type 0) (below : (i 
   old_made : (i : ℕ) (a : Call) (x : NewObject) → ended i → IsMadeAt (calls ++ call ∷ []) i a x → IsMadeAt calls i a x
   old_made i a x over is = (old_place i a over is.0, is.1)
 
-  module _ (live live' : ℕ → Option NewObject) (cells serials : ℕ → Type 0) (h : Lives calls ended live cells serials)
+  module _ (live live' : ℕ → Option NewObject) (serials : ℕ → Type 0) (h : Lives calls ended live serials)
       (live_is : (c : ℕ) (x : NewObject) → live' c ≡ Some x → (x.cell ≡ c) × NoneFrees (calls ++ call ∷ []) c × IsMade (calls ++ call ∷ []) ended x)
       (made_is : (i : ℕ) (a : Call) (x : NewObject) → ended i → IsMadeAt calls i a x → (live' x.cell ≡ Some x) ⊎ IsFreed (calls ++ call ∷ []) x.cell) where
-    begins : Lives (calls ++ call ∷ []) ended live' cells serials
+    begins : Lives (calls ++ call ∷ []) ended live' serials
     begins = record {
-      has_cell = λ i a over is is_new. h.has_cell i a over (old_place i a over is) is_new;
-      of_cell = λ c has. let n = h.of_cell c has in record {
-        place = n.place;
-        call = n.call;
-        over = n.over;
-        there = at_front calls (call ∷ []) n.place n.call n.there;
-        is_new = n.is_new;
-        names = n.names;
-      };
-      own_cells = λ i j a b apart over_i over_j at_i at_j. h.own_cells i j a b apart over_i over_j (old_place i a over_i at_i) (old_place j b over_j at_j);
       fair = λ i a over is. h.fair i a over (old_place i a over is);
       has_serial = λ i a x over is. h.has_serial i a x over (old_made i a x over is);
       of_serial = λ s has. let m = h.of_serial s has in (m.0, is_made_front calls (call ∷ []) ended m.0 m.1, m.2);
@@ -58,9 +48,9 @@ module _ (calls : List Call) (call : Call) (ended : ℕ → Type 0) (below : (i 
     }
 
   -- a call that is no `free` begins
-  pub another_begins : (live : ℕ → Option NewObject) (cells serials : ℕ → Type 0) → Lives calls ended live cells serials → (IsFree call.entry.command → ⊥)
-      → Lives (calls ++ call ∷ []) ended live cells serials
-  another_begins live cells serials h other = begins live live cells serials h
+  pub another_begins : (live : ℕ → Option NewObject) (serials : ℕ → Type 0) → Lives calls ended live serials → (IsFree call.entry.command → ⊥)
+      → Lives (calls ++ call ∷ []) ended live serials
+  another_begins live serials h other = begins live live serials h
       (λ c x is. let l = h.live_is c x is in (
         l.0,
         λ place free there frees names. elim (at_one calls call place free there) [
@@ -72,10 +62,10 @@ module _ (calls : List Call) (call : Call) (ended : ℕ → Type 0) (below : (i 
       (λ i a x over is. elim (h.made_is i a x over is) [ inl alive ↦ inl alive | inr freed ↦ inr (freed_front calls (call ∷ []) x.cell freed) ])
 
   -- the `free` of a live object begins
-  pub free_begins : (live live' : ℕ → Option NewObject) (cells serials : ℕ → Type 0) (cell : ℕ) → Lives calls ended live cells serials
+  pub free_begins : (live live' : ℕ → Option NewObject) (serials : ℕ → Type 0) (cell : ℕ) → Lives calls ended live serials
       → IsFree call.entry.command → cell_at call ≡ cell → live' cell ≡ None → ((c : ℕ) → c ≢ cell → live' c ≡ live c)
-      → Lives (calls ++ call ∷ []) ended live' cells serials
-  free_begins live live' cells serials cell h frees names gone others = begins live live' cells serials h
+      → Lives (calls ++ call ∷ []) ended live' serials
+  free_begins live live' serials cell h frees names gone others = begins live live' serials h
       (λ c x is. elim (eqb_tells c cell) [
         | inl same ↦ absurd (let e = same.1 in let g = subst (λ (q : ℕ). live' q ≡ None) (sym e) gone in cc (is, g))
         | inr apart ↦ let l = h.live_is c x (sym (others c apart.1) ∙ is) in (

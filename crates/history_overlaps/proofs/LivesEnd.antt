@@ -8,7 +8,7 @@ use Rattle.model_words.specs.declared.commands.Reply.TheVariants.{Object as Made
 use Rattle.model_intervals.specs.Intervals.{Call}
 use Rattle.model_intervals.specs.Objects.{Object as NewObject, IsFairNew, IsFreedBy, IsMadeAt, Meet, object_made}
 use Rattle.model_intervals.specs.OverlappingCalls.{IsAt, IsNew, cell_at, cell_of}
-use Rattle.history_overlaps.specs.Lives.{Lives, IsMade, IsNamed, NoneFrees}
+use Rattle.history_overlaps.specs.Lives.{Lives, IsMade, NoneFrees}
 use Rattle.history_overlaps.proofs.CallPlaces.{at_same}
 
 -- what makes an object is a `new` of its cell
@@ -33,9 +33,6 @@ made_by_new calls i a x h = (maker_is_new a.entry.command a.entry.reply x h.1).0
 pub is_made_later : (calls : List Call) (ended ended' : ℕ → Type 0) (x : NewObject) → ((i : ℕ) → ended i → ended' i) → IsMade calls ended x → IsMade calls ended' x
 is_made_later calls ended ended' x keep m = record { place = m.place; call = m.call; over = keep m.place m.over; there = m.there }
 
-pub is_named_later : (calls : List Call) (ended ended' : ℕ → Type 0) (c : ℕ) → ((i : ℕ) → ended i → ended' i) → IsNamed calls ended c → IsNamed calls ended' c
-is_named_later calls ended ended' c keep n = record { place = n.place; call = n.call; over = keep n.place n.over; there = n.there; is_new = n.is_new; names = n.names }
-
 -- the call at a place ends
 module _ (calls : List Call) (ended ended' : ℕ → Type 0) (p : ℕ) (a : Call) (there : IsAt calls p a)
     (split : (i : ℕ) → ended' i → ended i ⊎ (i ≡ p)) (keep : (i : ℕ) → ended i → ended' i) (now : ended' p) where
@@ -57,12 +54,8 @@ module _ (calls : List Call) (ended ended' : ℕ → Type 0) (p : ℕ) (a : Call
     old_made : (i : ℕ) (b : Call) (x : NewObject) → ended' i → IsMadeAt calls i b x → ended i
     old_made i b x over is = old_new i b over is.0 (made_by_new calls i b x is)
 
-    pub another_ends : (live : ℕ → Option NewObject) (cells serials : ℕ → Type 0) → Lives calls ended live cells serials → Lives calls ended' live cells serials
-    another_ends live cells serials h = record {
-      has_cell = λ i b over is is_new. h.has_cell i b (old_new i b over is is_new) is is_new;
-      of_cell = λ c has. is_named_later calls ended ended' c keep (h.of_cell c has);
-      own_cells = λ i j b d apart over_i over_j at_i at_j new_i new_j.
-          h.own_cells i j b d apart (old_new i b over_i at_i new_i) (old_new j d over_j at_j new_j) at_i at_j new_i new_j;
+    pub another_ends : (live : ℕ → Option NewObject) (serials : ℕ → Type 0) → Lives calls ended live serials → Lives calls ended' live serials
+    another_ends live serials h = record {
       fair = λ i b over is. elim (which i b over is) [
         | inl old ↦ h.fair i b old is
         | inr this ↦ subst (λ (q : Call). IsFairNew q.entry.command q.entry.reply) this.1 (fair_unless_new a.entry.command a.entry.reply other)
@@ -77,39 +70,10 @@ module _ (calls : List Call) (ended ended' : ℕ → Type 0) (p : ℕ) (a : Call
       made_is = λ i b x over is. h.made_is i b x (old_made i b x over is) is;
     }
 
-  -- it is a `new` of a cell that no other had
+  -- it is a `new` of a cell that no ended `new` has
   module _ (is_new : IsNew a.entry.command) (fair : IsFairNew a.entry.command a.entry.reply)
-      (live live' : ℕ → Option NewObject) (cells cells' serials serials' : ℕ → Type 0) (h : Lives calls ended live cells serials)
-      (unused : cells (cell_at a) → ⊥) (has_it : cells' (cell_at a)) (keeps_cells : (c : ℕ) → cells c → cells' c)
-      (of_cells : (c : ℕ) → cells' c → cells c ⊎ (c ≡ cell_at a)) where
-    pub own_cells' : (i j : ℕ) (b d : Call) → i ≢ j → ended' i → ended' j → IsAt calls i b → IsAt calls j d → IsNew b.entry.command → IsNew d.entry.command
-        → cell_at b ≢ cell_at d
-    own_cells' i j b d apart over_i over_j at_i at_j new_i new_j same = elim (which i b over_i at_i) [
-      | inl old_i ↦ elim (which j d over_j at_j) [
-        | inl old_j ↦ h.own_cells i j b d apart old_i old_j at_i at_j new_i new_j same
-        | inr this_j ↦ unused (subst (λ (q : ℕ). cells q) (same ∙ sym (named this_j.1)) (h.has_cell i b old_i at_i new_i))
-      ]
-      | inr this_i ↦ elim (which j d over_j at_j) [
-        | inl old_j ↦ unused (subst (λ (q : ℕ). cells q) (sym same ∙ sym (named this_i.1)) (h.has_cell j d old_j at_j new_j))
-        | inr this_j ↦ apart (this_i.0 ∙ sym this_j.0)
-      ]
-    ]
-      where
-        named : {b : Call} → a ≡ b → cell_at a ≡ cell_at b
-        named {b} e = subst (λ (q : Call). cell_at a ≡ cell_at q) e refl
-
-    has_cell' : (i : ℕ) (b : Call) → ended' i → IsAt calls i b → IsNew b.entry.command → cells' (cell_at b)
-    has_cell' i b over is new_i = elim (which i b over is) [
-      | inl old ↦ keeps_cells (cell_at b) (h.has_cell i b old is new_i)
-      | inr this ↦ subst (λ (q : Call). cells' (cell_at q)) this.1 has_it
-    ]
-
-    of_cell' : (c : ℕ) → cells' c → IsNamed calls ended' c
-    of_cell' c has = elim (of_cells c has) [
-      | inl old ↦ is_named_later calls ended ended' c keep (h.of_cell c old)
-      | inr same ↦ record { place = p; call = a; over = now; there = there; is_new = is_new; names = sym same }
-    ]
-
+      (live live' : ℕ → Option NewObject) (serials serials' : ℕ → Type 0) (h : Lives calls ended live serials)
+      (own : (j : ℕ) (d : Call) → ended j → IsAt calls j d → IsNew d.entry.command → cell_at d ≢ cell_at a) where
     fair' : (i : ℕ) (b : Call) → ended' i → IsAt calls i b → IsFairNew b.entry.command b.entry.reply
     fair' i b over is = elim (which i b over is) [
       | inl old ↦ h.fair i b old is
@@ -117,11 +81,8 @@ module _ (calls : List Call) (ended ended' : ℕ → Type 0) (p : ℕ) (a : Call
     ]
 
     -- it was refused
-    pub refused_ends : object_made a.entry.command a.entry.reply ≡ None → Lives calls ended' live cells' serials
+    pub refused_ends : object_made a.entry.command a.entry.reply ≡ None → Lives calls ended' live serials
     refused_ends refused = record {
-      has_cell = has_cell';
-      of_cell = of_cell';
-      own_cells = own_cells';
       fair = fair';
       has_serial = λ i b x over is. h.has_serial i b x (old_made i b x over is) is;
       of_serial = λ s has. let m = h.of_serial s has in (m.0, is_made_later calls ended ended' m.0 keep m.1, m.2);
@@ -169,15 +130,11 @@ module _ (calls : List Call) (ended ended' : ℕ → Type 0) (p : ℕ) (a : Call
 
       -- an old object's cell is another
       cell_apart : (j : ℕ) (d : Call) (x : NewObject) → ended j → IsMadeAt calls j d x → x.cell ≢ y.cell
-      cell_apart j d x over is same = unused (subst (λ (q : ℕ). cells q)
+      cell_apart j d x over is same = own j d over is.0 (made_by_new calls j d x is)
           (made_at_cell calls j d x is ∙ same ∙ sym (made_at_cell calls p a y (there, makes)))
-          (h.has_cell j d over is.0 (made_by_new calls j d x is)))
 
-      pub made_ends : Lives calls ended' live' cells' serials'
+      pub made_ends : Lives calls ended' live' serials'
       made_ends = record {
-        has_cell = has_cell';
-        of_cell = of_cell';
-        own_cells = own_cells';
         fair = fair';
         has_serial = λ i b x over is. elim (which_made i b x over is) [
           | inl old ↦ keeps_serials x.serial (h.has_serial i b x old is)

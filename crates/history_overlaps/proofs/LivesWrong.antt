@@ -23,15 +23,11 @@ pub maker_by_new : (command : Command) (reply : Reply) → MakesOne command repl
 maker_by_new (New cell len word) reply makes = tt
 maker_by_new command reply makes = absurd makes
 
-module _ (calls : List Call) (ended : ℕ → Type 0) (live : ℕ → Option NewObject) (cells serials : ℕ → Type 0) (h : Lives calls ended live cells serials)
+module _ (calls : List Call) (ended : ℕ → Type 0) (live : ℕ → Option NewObject) (serials : ℕ → Type 0) (h : Lives calls ended live serials)
     (p : ℕ) (a : Call) (there : IsAt calls p a) (waits : ended p → ⊥) (is_new : IsNew a.entry.command) (moment : ℕ) where
   -- a place of one that has ended is another
   other_place : (i : ℕ) → ended i → i ≢ p
   other_place i over same = waits (subst ended same over)
-
-  pub cell_again : cells (cell_at a) → CannotBe calls moment
-  cell_again has more later history explained = let n = h.of_cell (cell_at a) has in
-      history.own_cells n.place p n.call a (other_place n.place n.over) (at_front calls more n.place n.call n.there) (at_front calls more p a there) n.is_new is_new n.names
 
   pub unfair : (IsFairNew a.entry.command a.entry.reply → ⊥) → CannotBe calls moment
   unfair not_fair more later history explained =

@@ -45,12 +45,12 @@ module _ (calls : List Call) (call : Call) (waits waits' : ℕ → Option Pendin
   pub waits_still : (i : ℕ) (a : Call) → IsAt calls i a → IsWaiting waits a i → IsWaiting waits' a i
   waits_still i a is w = (w.0, others (key_of a i) (key_apart i a is) ∙ w.1)
 
-  pub queue_begins : Suits call pending → Queue (calls ++ call ∷ []) waits'
+  pub queue_begins : Suits call (length calls) pending → Queue (calls ++ call ∷ []) waits'
   queue_begins suits = record {
     keyed = λ key p is. elim (eqb_tells key (key_of call (length calls))) [
       | inl same ↦
           let this : pending ≡ p = (let at = subst (λ (q : ℕ). waits' q ≡ Some pending) (sym same.1) now in cc (at, is)) in
-          record { place = length calls; call = call; there = at_end calls call; is_key = same.1; suits = subst (λ (r : Pending). Suits call r) this suits }
+          record { place = length calls; call = call; there = at_end calls call; is_key = same.1; suits = subst (λ (r : Pending). Suits call (length calls) r) this suits }
       | inr apart ↦ let w = h.keyed key p (sym (others key apart.1) ∙ is) in
           record { place = w.place; call = w.call; there = at_front calls (call ∷ []) w.place w.call w.there; is_key = w.is_key; suits = w.suits }
     ];

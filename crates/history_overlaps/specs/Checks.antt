@@ -1,5 +1,5 @@
 -- What is found of the text of a history of overlapping calls.
-use Rattle.std.specs.Prelude.{◌≡◌, ◌⊎◌, ℕ, ◌^◌, ◌<◌, ◌≤◌, List, ◌++◌, Option, Some, None, Result, Ok, length}
+use Rattle.std.specs.Prelude.{◌≡◌, ◌⊎◌, ℕ, ◌+◌, ◌^◌, ◌<◌, ◌≤◌, List, [], ◌∷◌, ◌++◌, Option, Some, None, Result, Ok, length}
 use Rattle.std.specs.Io.KnownBytes.{Consumes, IsAtEnd}
 use Rattle.model_intervals.specs.Intervals.{Call, IsLinearizable}
 use Rattle.model_intervals.specs.OverlappingCalls.{IsAt, IsHistory}
@@ -9,13 +9,17 @@ use Rattle.history_reading.specs.declared.faults.CallError.{CallError}
 use Rattle.history_reading.specs.declared.faults.CallError.TheVariants.{Text, Order, Read, Memory}
 use Rattle.history_reading.specs.declared.call_inputs.CallInput.{CallInput}
 use Rattle.history_overlaps.specs.Ends.{Past}
+use Rattle.history_overlaps.specs.Flaws.{IsFlawAt}
+use Rattle.history_overlaps.specs.Lives.{CannotBe, NoneGoesOn}
+use Rattle.history_overlaps.specs.Misuses.{IsMisusedAt}
 use Rattle.history_overlaps.specs.Standing.{Stands, lives_of, waits_of}
 use Rattle.history_overlaps.specs.Timelines.{FewOpen}
-use Rattle.history_overlaps.specs.declared.stops.Found.{Found}
+use Rattle.history_overlaps.specs.declared.flaws.Flaw.{Flaw}
+use Rattle.history_overlaps.specs.declared.misuses.Misuse.{Misuse}
 use Rattle.history_overlaps.specs.declared.stops.Stop.{Stop}
 use Rattle.history_overlaps.specs.declared.timeline.Timeline.{Timeline}
 use Rattle.history_overlaps.specs.declared.verdicts.CallVerdict.{CallVerdict}
-use Rattle.history_overlaps.specs.declared.verdicts.CallVerdict.TheVariants.{Linearizable, Flawed, Undecided}
+use Rattle.history_overlaps.specs.declared.verdicts.CallVerdict.TheVariants.{Linearizable, Misused, Flawed, Undecided}
 
 -- ---- verdicts
 
@@ -31,12 +35,40 @@ pub record IsLinearizableText (text : List ℕ) (entries : ℕ) : Type 0 where
 abbrev pub IsUnexplainedText : List ℕ → Type 0
 IsUnexplainedText text = IsHistory (calls_of text).calls → IsLinearizable (calls_of text).calls → ⊥
 
--- what a verdict claims: `Linearizable` of the whole text that the device gave, and `Flawed` of each text that begins
--- with what was read, or of the whole text. `Undecided` claims nothing
+-- the calls are the first ones of the text
+abbrev pub AreFirstCalls : List Call → List ℕ → Type 0
+AreFirstCalls calls text = (later : List Call) × ((calls_of text).calls ≡ calls ++ later)
+
+-- the call in this line breaks this rule of use, among the first calls of the text that was read. The calls of no text
+-- that begins so are a history
+pub record IsMisusedText (text : List ℕ) (line : ℕ) (misuse : Misuse) : Type 0 where
+  pub calls : List Call
+  pub number : ℕ
+  pub in_line : line ≡ number + 2
+  pub misused : IsMisusedAt calls number misuse
+  pub first : (more : List ℕ) → AreFirstCalls calls (text ++ more)
+  pub none : (more : List ℕ) → IsHistory (calls_of (text ++ more)).calls → ⊥
+
+-- these are the first calls of the text, and no order explains the calls of the text, up to its first fault
+abbrev pub IsUnexplainedFrom : List Call → List ℕ → Type 0
+IsUnexplainedFrom calls text = AreFirstCalls calls text × IsUnexplainedText text
+
+-- the answer of the call in this line has this flaw, among the first calls of the text that was read. These are a
+-- history, so no rule of use is broken. No order explains the calls of any text that begins so, or the whole text was
+-- read and no order explains its calls
+pub record IsFlawedText (left' : Option (List ℕ)) (text : List ℕ) (line : ℕ) (flaw : Flaw) : Type 0 where
+  pub calls : List Call
+  pub number : ℕ
+  pub in_line : line ≡ number + 2
+  pub history : IsHistory calls
+  pub flawed : IsFlawAt calls number flaw
+  pub unexplained : ((more : List ℕ) → IsUnexplainedFrom calls (text ++ more)) ⊎ (IsUnexplainedFrom calls text × IsAtEnd left')
+
+-- what a verdict claims of the text that was read. `Undecided` claims nothing
 abbrev pub HasJudged : Option (List ℕ) → Option (List ℕ) → CallVerdict → Type 0
 HasJudged left left' (Linearizable entries) = (text : List ℕ) × Consumes left left' text × IsAtEnd left' × IsLinearizableText text entries
-HasJudged left left' (Flawed line flaw) = (text : List ℕ) × Consumes left left' text
-    × (((more : List ℕ) → IsUnexplainedText (text ++ more)) ⊎ (IsUnexplainedText text × IsAtEnd left'))
+HasJudged left left' (Misused line misuse) = (text : List ℕ) × Consumes left left' text × IsMisusedText text line misuse
+HasJudged left left' (Flawed line flaw) = (text : List ℕ) × Consumes left left' text × IsFlawedText left' text line flaw
 HasJudged left left' (Undecided line fault) = Unit {0}
 
 -- why there is no verdict: the text has this fault. `Read` and `Memory` claim nothing about the text
@@ -65,8 +97,20 @@ pub record HasTaken (history : CallInput) (t : Timeline) (left left' : Option (L
   pub come : HasCome history left left' calls
   pub kept : IsKept t calls
 
--- the verdict isn't `Linearizable`, and it is `Flawed` only if a flaw was found
-abbrev pub IsTold : Result (Option Found) Stop → CallVerdict → Type 0
-IsTold found (Linearizable entries) = ⊥
-IsTold found (Flawed line flaw) = (first : Found) × (found ≡ Ok (Some first))
+-- what a verdict claims if it is told before a call begins, where these calls have begun
+abbrev pub IsJudgedBefore : List Call → Call → CallVerdict → Type 0
+IsJudgedBefore calls call (Misused line misuse) = (number : ℕ) × (line ≡ number + 2) × IsMisusedAt (calls ++ call ∷ []) number misuse
+    × NoneGoesOn (calls ++ call ∷ []) call.begin
+IsJudgedBefore calls call (Flawed line flaw) = (number : ℕ) × (line ≡ number + 2) × IsHistory calls × IsFlawAt calls number flaw × CannotBe calls call.begin
+IsJudgedBefore calls call (Linearizable entries) = ⊥
+IsJudgedBefore calls call (Undecided line fault) = ⊥
+
+-- what a verdict claims if it is told when all these calls have ended
+abbrev pub IsJudgedAtEnd : List Call → CallVerdict → Type 0
+IsJudgedAtEnd calls (Flawed line flaw) = (number : ℕ) × (line ≡ number + 2) × IsHistory calls × IsFlawAt calls number flaw × (IsLinearizable calls → ⊥)
+IsJudgedAtEnd calls verdict = ⊥
+
+-- the verdict is the one that was found, or it is `Undecided`
+abbrev pub IsTold : Result (Option CallVerdict) Stop → CallVerdict → Type 0
 IsTold found (Undecided line fault) = Unit {0}
+IsTold found verdict = found ≡ Ok (Some verdict)

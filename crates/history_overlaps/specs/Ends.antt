@@ -4,6 +4,7 @@ use Rattle.model_intervals.specs.Intervals.{Call}
 use Rattle.model_intervals.specs.Objects.{Meet}
 use Rattle.model_intervals.specs.OverlappingCalls.{IsAt}
 use Rattle.history_object.specs.Following.{IsOpen}
+use Rattle.history_overlaps.specs.Flaws.{IsFlawAt}
 use Rattle.history_overlaps.specs.Judges.{AccessJudge}
 use Rattle.history_overlaps.specs.LifeSteps.{HasEndedAt}
 use Rattle.history_overlaps.specs.Lives.{CannotBe}
@@ -13,6 +14,7 @@ use Rattle.history_overlaps.specs.Timelines.{FewOpen, StopsWaiting}
 use Rattle.history_overlaps.specs.declared.life.Life.{Life}
 use Rattle.history_overlaps.specs.declared.objects.NewObject.{NewObject}
 use Rattle.history_overlaps.specs.declared.pending.Pending.{Pending}
+use Rattle.history_overlaps.specs.declared.stops.Found.{Found}
 use Rattle.history_overlaps.specs.declared.timeline.Timeline.{Timeline}
 
 -- the cell at the greatest of the addresses up to this one at which an object starts, or `None` if none starts there
@@ -60,10 +62,10 @@ pub record IsFirstBefore (waits waits' : ℕ → Option Pending) (moment number 
 abbrev pub Past : List Call → (ℕ → Option Pending) → ℕ → Type 0
 Past calls waits moment = (i : ℕ) (a : Call) → HasEnded calls waits i → IsAt calls i a → a.end < moment
 
--- if no call so far began after the moment, then no calls that begin from the moment on continue the calls so far to a
--- history that is explained by object
-abbrev pub IsRuledOut : Timeline → ℕ → Type 0
-IsRuledOut t moment = (calls : List Call) → Stands calls t → ((i : ℕ) (a : Call) → IsAt calls i a → a.begin ≤ moment) → CannotBe calls moment
+-- the answer of the call that is found has the flaw that is found, and no calls that begin from the moment on continue
+-- the calls so far to a history that is explained by object
+abbrev pub IsRuledOut : Timeline → ℕ → Found → Type 0
+IsRuledOut t moment found = (calls : List Call) → Stands calls t → IsFlawAt calls found.number found.flaw × CannotBe calls moment
 
 -- the calls that end before the moment are ended in the timeline, and no flaw was found: the timeline represents the
 -- same calls before and after

@@ -2,11 +2,13 @@ pub mod Accesses
 pub mod Begins
 pub mod Checks
 pub mod Ends
+pub mod Flaws
 pub mod Followed
 pub mod Judges
 pub mod Keys
 pub mod LifeSteps
 pub mod Lives
+pub mod Misuses
 pub mod OrderTexts
 pub mod Orders
 pub mod OwnOrders

@@ -23,22 +23,17 @@ pub record IsMade (calls : List Call) (ended : ℕ → Type 0) (object : Object)
   pub over : ended place
   pub there : IsMadeAt calls place call object
 
--- a `new` of this cell has ended
-pub record IsNamed (calls : List Call) (ended : ℕ → Type 0) (cell : ℕ) : Type 0 where
+-- a `new` has this cell
+pub record IsNamed (calls : List Call) (cell : ℕ) : Type 0 where
   pub place : ℕ
   pub call : Call
-  pub over : ended place
   pub there : IsAt calls place call
   pub is_new : IsNew call.entry.command
   pub names : cell_at call ≡ cell
 
--- if the calls in `ended` have ended: `live` has the live objects by their cells, `cells` the cell of each ended `new`,
--- and `serials` the serials that these returned. The ended calls meet the conditions on the objects of a history
-pub record Lives (calls : List Call) (ended : ℕ → Type 0) (live : ℕ → Option Object) (cells serials : ℕ → Type 0) : Type 0 where
-  pub has_cell : (i : ℕ) (a : Call) → ended i → IsAt calls i a → IsNew a.entry.command → cells (cell_at a)
-  pub of_cell : (c : ℕ) → cells c → IsNamed calls ended c
-  pub own_cells : (i j : ℕ) (a b : Call) → i ≢ j → ended i → ended j → IsAt calls i a → IsAt calls j b → IsNew a.entry.command → IsNew b.entry.command
-      → cell_at a ≢ cell_at b
+-- if the calls in `ended` have ended: `live` has the live objects by their cells, and `serials` the serials that ended
+-- `new`s returned. The ended calls meet the conditions on the objects of a history
+pub record Lives (calls : List Call) (ended : ℕ → Type 0) (live : ℕ → Option Object) (serials : ℕ → Type 0) : Type 0 where
   pub fair : (i : ℕ) (a : Call) → ended i → IsAt calls i a → IsFairNew a.entry.command a.entry.reply
   pub has_serial : (i : ℕ) (a : Call) (x : Object) → ended i → IsMadeAt calls i a x → serials x.serial
   pub of_serial : (s : ℕ) → serials s → (x : Object) × IsMade calls ended x × (x.serial ≡ s)
@@ -51,6 +46,10 @@ pub record Lives (calls : List Call) (ended : ℕ → Type 0) (live : ℕ → Op
 -- each of these calls begins at the moment or later
 abbrev pub BeginFrom : ℕ → List Call → Type 0
 BeginFrom moment more = (place : ℕ) (call : Call) → IsAt more place call → moment ≤ call.begin
+
+-- no calls that begin from the moment on continue these calls to a history
+abbrev pub NoneGoesOn : List Call → ℕ → Type 0
+NoneGoesOn calls moment = (more : List Call) → BeginFrom moment more → IsHistory (calls ++ more) → ⊥
 
 -- no calls that begin from the moment on continue these calls to a history that is explained by object
 abbrev pub CannotBe : List Call → ℕ → Type 0

@@ -1,16 +1,14 @@
 -- The calls that have begun and not ended, in the order of their ends.
 use Rattle.std.specs.Prelude.{◌≡◌, ◌≢◌, ℕ, ◌+◌, ◌*◌, ◌<◌, ◌≤◌, true, List, ◌++◌, Option, Some, None, length}
-use Rattle.std.specs.List.{All}
 use Rattle.model_history.specs.Recorded.{many_cells}
 use Rattle.model_words.specs.declared.commands.Command.TheVariants.{New}
 use Rattle.model_words.specs.declared.commands.Reply.TheVariants.{Refused as RefusedReply}
 use Rattle.model_intervals.specs.Intervals.{Call}
 use Rattle.model_intervals.specs.Objects.{Object, is_access, object_made}
-use Rattle.model_intervals.specs.OverlappingCalls.{HasEffect, IsAt, IsFree, IsHistory, IsMadeBefore, IsNew, cell_at}
-use Rattle.history_overlaps.specs.Lives.{BeginFrom}
+use Rattle.model_intervals.specs.OverlappingCalls.{HasEffect, IsAt, IsFree, cell_at}
 use Rattle.history_overlaps.specs.declared.objects.NewObject.{NewObject}
 use Rattle.history_overlaps.specs.declared.pending.Pending.{Pending}
-use Rattle.history_overlaps.specs.declared.pending.Pending.TheVariants.{Made, Refused, Free, Access, Wrong}
+use Rattle.history_overlaps.specs.declared.pending.Pending.TheVariants.{Made, Refused, Free, Access}
 
 -- an object of the code, as an object of the definitions
 abbrev pub object_of : NewObject → Object
@@ -28,21 +26,20 @@ IsWaiting waits call place = (pending : Pending) × (waits (key_of call place) �
 abbrev pub HasEnded : List Call → (ℕ → Option Pending) → ℕ → Type 0
 HasEnded calls waits place = (call : Call) × IsAt calls place call × (waits (key_of call place) ≡ None)
 
--- `pending` is what is to be done at the end of this call, and isn't a flaw
-abbrev pub Suits : Call → Pending → Type 0
-Suits call (Made x) = object_made call.entry.command call.entry.reply ≡ Some (object_of x)
-Suits call (Refused cell len refusal) = (word : ℕ) × (call.entry.command ≡ New cell len word) × (call.entry.reply ≡ RefusedReply refusal)
-Suits call (Free cell) = IsFree call.entry.command × (cell_at call ≡ cell)
-Suits call (Access cell) = (is_access call.entry.command ≡ true) × (cell_at call ≡ cell)
-Suits call (Wrong outside) = ⊥
+-- `pending` is what is to be done at the end of this call, which is at this place
+abbrev pub Suits : Call → ℕ → Pending → Type 0
+Suits call place (Made x) = (object_made call.entry.command call.entry.reply ≡ Some (object_of x)) × (x.number ≡ place)
+Suits call place (Refused len refusal) = (cell word : ℕ) × (call.entry.command ≡ New cell len word) × (call.entry.reply ≡ RefusedReply refusal)
+Suits call place Free = IsFree call.entry.command
+Suits call place (Access cell) = (is_access call.entry.command ≡ true) × (cell_at call ≡ cell)
 
--- some call waits under this key, and `pending` is what is to be done at its end, without a flaw
+-- some call waits under this key, and `pending` is what is to be done at its end
 pub record WaitsAt (calls : List Call) (key : ℕ) (pending : Pending) : Type 0 where
   pub place : ℕ
   pub call : Call
   pub there : IsAt calls place call
   pub is_key : key ≡ key_of call place
-  pub suits : Suits call pending
+  pub suits : Suits call place pending
 
 -- only calls that have begun wait. A waiting call ends no earlier than any call began, and no earlier than any ended
 -- call ended. There are at most 2^32 calls
@@ -51,15 +48,6 @@ pub record Queue (calls : List Call) (waits : ℕ → Option Pending) : Type 0 w
   pub reach : (i j : ℕ) (a b : Call) → IsAt calls i a → IsAt calls j b → IsWaiting waits a i → b.begin ≤ a.end
   pub order : (i j : ℕ) (a b : Call) → HasEnded calls waits i → IsAt calls i a → IsAt calls j b → IsWaiting waits b j → a.end ≤ b.end
   pub few : length calls ≤ 4294967296
-
--- the conditions of a history that calls must meet as soon as they have begun
-pub record Begun (calls : List Call) : Type 0 where
-  pub take_time : All (λ call. call.begin ≤ call.end) calls
-  pub have_effects : All (λ call. HasEffect call.entry.command call.entry.reply) calls
-  pub have_cells : All (λ call. cell_at call < many_cells) calls
-  pub after_new : (i : ℕ) (call : Call) → IsAt calls i call → (IsNew call.entry.command → ⊥) → IsMadeBefore calls (cell_at call) call.begin
-  pub before_free : (i j : ℕ) (call free : Call) → i ≢ j → IsAt calls i call → IsAt calls j free → (IsNew call.entry.command → ⊥) → IsFree free.entry.command
-      → cell_at call ≡ cell_at free → call.end < free.begin
 
 -- the call is valid and may begin next: no call so far began later, the ended calls ended before the new call begins,
 -- and the waiting calls end no earlier than it begins
@@ -71,11 +59,3 @@ pub record MayBegin (calls : List Call) (waits : ℕ → Option Pending) (call :
   pub behind : (i : ℕ) (a : Call) → HasEnded calls waits i → IsAt calls i a → a.end < call.begin
   pub within : (i : ℕ) (a : Call) → IsAt calls i a → IsWaiting waits a i → call.begin ≤ a.end
   pub few : length calls < 4294967296
-
--- no history continues these calls: for some call among them, no calls that begin from its begin on continue these
--- calls to a history
-pub record CannotGoOn (calls : List Call) : Type 0 where
-  pub place : ℕ
-  pub call : Call
-  pub there : IsAt calls place call
-  pub none : (more : List Call) → BeginFrom call.begin more → IsHistory (calls ++ more) → ⊥

@@ -1,17 +1,21 @@
 -- A timeline, and the calls that it represents.
-use Rattle.std.specs.Prelude.{◌≡◌, ◌≢◌, ℕ, ◌*◌, ◌%◌, ◌<◌, ◌≤◌, List, [], ◌∷◌, ◌++◌, Option, Some, length}
+use Rattle.std.specs.Prelude.{◌≡◌, ◌≢◌, ℕ, ◌*◌, ◌%◌, ◌<◌, List, [], ◌∷◌, ◌++◌, Option, Some, length}
 use Rattle.std.specs.Ordering.{nat_cmp}
 use Rattle.std.specs.BTreeMap.{get}
 use Rattle.model_memory.specs.Plain.{Entry}
 use Rattle.model_intervals.specs.Intervals.{Call}
-use Rattle.model_intervals.specs.OverlappingCalls.{IsAt}
 use Rattle.history_number_set.specs.Ranges.{Has}
 use Rattle.history_overlaps.specs.Accesses.{access_of}
+use Rattle.history_overlaps.specs.Flaws.{IsFlawAt}
 use Rattle.history_overlaps.specs.LifeSteps.{HasBegun}
 use Rattle.history_overlaps.specs.Lives.{CannotBe}
+use Rattle.history_overlaps.specs.Misuses.{IsMisusedAt}
 use Rattle.history_overlaps.specs.Queues.{MayBegin}
-use Rattle.history_overlaps.specs.Timelines.{IsState, StartsWaiting, StopsWaiting}
+use Rattle.history_overlaps.specs.Timelines.{Holds, StartsWaiting, StopsWaiting}
+use Rattle.history_overlaps.specs.declared.flaws.Flaw.{Flaw}
 use Rattle.history_overlaps.specs.declared.life.Life.{Life}
+use Rattle.history_overlaps.specs.declared.misuses.NotBegun.{NotBegun}
+use Rattle.history_overlaps.specs.declared.misuses.NotBegun.TheVariants.{Misused, Fault}
 use Rattle.history_overlaps.specs.declared.pending.Pending.{Pending}
 use Rattle.history_overlaps.specs.declared.timeline.Timeline.{Timeline}
 
@@ -26,7 +30,7 @@ starts_of t = get nat_cmp t.starts
 
 -- the timeline without its queue represents these calls, if `waits` are the waiting calls
 abbrev pub StandsWith : List Call → (ℕ → Option Pending) → Timeline → Type 0
-StandsWith calls waits t = IsState calls waits (lives_of t) (starts_of t) (Has t.cells) (Has t.serials) (Has t.freed_twice)
+StandsWith calls waits t = Holds calls waits (lives_of t) (starts_of t) (Has t.cells) (Has t.serials) (Has t.freed)
 
 -- the timeline represents these calls
 abbrev pub Stands : List Call → Timeline → Type 0
@@ -42,6 +46,14 @@ abbrev pub HasBegunSo : Timeline → Timeline → ℕ → Entry → Pending → 
 HasBegunSo old new number entry pending = (calls : List Call) (call : Call) (waits' : ℕ → Option Pending) → length calls ≡ number → call.entry ≡ entry
     → Stands calls old → MayBegin calls (waits_of old) call → StartsWaiting calls call (waits_of old) waits' pending → StandsWith (calls ++ call ∷ []) waits' new
 
+-- if a call with this number and this entry may begin, the call that is told breaks the rule that is told. Other reasons
+-- why a call doesn't begin claim nothing
+abbrev pub IsMisusedSo : Timeline → ℕ → Entry → NotBegun → Type 0
+IsMisusedSo old number entry (Misused misused) = (calls : List Call) (call : Call) → length calls ≡ number → call.entry ≡ entry
+    → Stands calls old → MayBegin calls (waits_of old) call
+    → IsMisusedAt (calls ++ call ∷ []) misused.number misused.misuse
+IsMisusedSo old number entry (Fault fault) = Unit {0}
+
 -- the access `number` to the live object of the cell has begun
 abbrev pub HasBegunIn : (ℕ → Option Life) → (ℕ → Option Life) → ℕ → ℕ → Entry → Type 0
 HasBegunIn lives lives' cell number entry = (old new : Life) × (lives cell ≡ Some old) × IsSetAt lives lives' cell (Some new) × (new.object ≡ old.object)
@@ -52,9 +64,13 @@ abbrev pub HasEndedSo : Timeline → Timeline → ℕ → Pending → Type 0
 HasEndedSo old new number pending = (calls : List Call) (waits : ℕ → Option Pending) (key : ℕ) → key % 4294967296 ≡ number → StopsWaiting waits (waits_of old) key pending
     → StandsWith calls waits old → StandsWith calls (waits_of old) new
 
--- a flaw is found at the end of the waiting call that ends first, which has this number. At each moment after that end
--- by which all calls so far have begun, no calls that begin from then on continue the calls so far to a history that is
--- explained by object
-abbrev pub IsFlawed : Timeline → ℕ → Pending → Type 0
-IsFlawed old number pending = (calls : List Call) (waits : ℕ → Option Pending) (key moment : ℕ) → key % 4294967296 ≡ number → StopsWaiting waits (waits_of old) key pending
-    → StandsWith calls waits old → key < moment * 4294967296 → ((i : ℕ) (a : Call) → IsAt calls i a → a.begin ≤ moment) → CannotBe calls moment
+-- the waiting call that ends first has this number, and `pending` is to be done at its end
+abbrev pub IsEnding : Timeline → ℕ → Pending → Type 0
+IsEnding t number pending = (calls : List Call) × (waits : ℕ → Option Pending) × (key : ℕ) × (key % 4294967296 ≡ number)
+    × StopsWaiting waits (waits_of t) key pending × StandsWith calls waits t
+
+-- the answer of the waiting call that ends first, which has this number, has a flaw. At each moment after that end, no
+-- calls that begin from then on continue the calls so far to a history that is explained by object
+abbrev pub IsFlawed : Timeline → ℕ → Pending → Flaw → Type 0
+IsFlawed old number pending flaw = (calls : List Call) (waits : ℕ → Option Pending) (key moment : ℕ) → key % 4294967296 ≡ number → StopsWaiting waits (waits_of old) key pending
+    → StandsWith calls waits old → key < moment * 4294967296 → IsFlawAt calls number flaw × CannotBe calls moment

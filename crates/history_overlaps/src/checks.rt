@@ -1,17 +1,17 @@
 //! The verdict on a history of overlapping calls from a device.
-ghost use Rattle.std.specs.Prelude.{◌≡◌, ◌≤◌, ◌^◌, ◌++◌, ◌∷◌, [], ℕ, List, Err, true, false, IfErr, IfOk, IfSome, IsNone, None, Ok, OnOk, length};
+ghost use Rattle.std.specs.Prelude.{◌≡◌, ◌+◌, ◌<◌, ◌^◌, ◌++◌, ◌∷◌, [], ℕ, List, Err, true, false, IfErr, IfOk, IfSome, IsNone, None, Ok, OnOk, length};
 ghost use Rattle.model_intervals.specs.Intervals.{Call, IsLinearizable};
 ghost use Rattle.model_intervals.specs.OverlappingCalls.{IsHistory};
 ghost use Rattle.history_reading.specs.CallReadings.{is_in_order};
 ghost use Rattle.history_reading.specs.CallWords.{IsReadCall, plain_call};
 ghost use Rattle.history_reading.specs.declared.faults.CallError.{CallError};
 ghost use Rattle.history_reading.specs.CallInputs.{IsFresh};
-ghost use Rattle.history_overlaps.specs.Checks.{HasJudged, HasNotJudged, IsKept, IsTold};
-ghost use Rattle.history_overlaps.specs.Lives.{CannotBe};
+ghost use Rattle.history_overlaps.specs.Checks.{HasJudged, HasNotJudged, IsJudgedAtEnd, IsJudgedBefore, IsKept, IsTold};
 ghost use Rattle.history_overlaps.specs.Standing.{lives_of};
 ghost use Rattle.history_overlaps.specs.Timelines.{FewOpen};
 
-use crate::stops::{Found, Stop};
+use crate::misuses::NotBegun;
+use crate::stops::Stop;
 use crate::timeline::Timeline;
 use crate::verdicts::CallVerdict;
 use history_object::JudgeFault;
@@ -66,30 +66,26 @@ fn judge_calls<I: Source>(
 {
     while let Some(call) = history.next(input)? {
         let number = history.lines() - 2;
-        if let Some(verdict) = verdict_of(timeline.take(number, &call, most))? {
+        if let Some(verdict) = decided(timeline.take(number, &call, most))? {
             return Ok(verdict);
         }
     }
     let count = history.lines() - 1;
-    if let Some(verdict) = verdict_of(timeline.finish(most))? {
+    if let Some(verdict) = decided(timeline.finish(count, most))? {
         return Ok(verdict);
     }
     Ok(CallVerdict::Linearizable(count))
 }
 
-/// Returns the verdict if a flaw was found, or if the judge stopped without a failed allocation. Returns `None` if
-/// neither happened. The error is `Memory` if the judge stopped because an allocation failed.
-fn verdict_of(found: Result<Option<Found>, Stop>) -> Result<Option<CallVerdict>, CallError>
+/// Returns the verdict if there is one, or if the judge stopped without a failed allocation. Returns `None` if neither
+/// happened. The error is `Memory` if the judge stopped because an allocation failed.
+fn decided(found: Result<Option<CallVerdict>, Stop>) -> Result<Option<CallVerdict>, CallError>
     ensures none { IfOk result (λ verdict. IsNone verdict → found ≡ Ok None) }
     ensures told { IfOk result (λ verdict. IfSome verdict (IsTold found)) }
     ensures error { IfErr result (λ error. error ≡ CallError.Memory) }
 {
     match found {
-        Ok(None) => Ok(None),
-        Ok(Some(found)) => Ok(Some(CallVerdict::Flawed(
-            found.number.saturating_add(2),
-            found.flaw,
-        ))),
+        Ok(verdict) => Ok(verdict),
         Err(stop) => match stop.fault {
             JudgeFault::Memory => Err(CallError::Memory),
             fault => Ok(Some(CallVerdict::Undecided(stop.number.saturating_add(2), fault))),
@@ -98,36 +94,54 @@ fn verdict_of(found: Result<Option<Found>, Stop>) -> Result<Option<CallVerdict>,
 }
 
 impl Timeline {
-    /// Handles the ends before the start of the next call, and then this start. Returns the first flaw that is found,
-    /// or `None` if no flaw is found. The error is the reason why the judge stops.
-    fn take(&mut self, number: u32, call: &TimedCall, most: usize) -> Result<Option<Found>, Stop>
+    /// Handles the ends before the start of the next call, and then this start. Returns the verdict if a call breaks a
+    /// rule of use or a flaw is found, and `None` otherwise. The error is the reason why the judge stops.
+    fn take(
+        &mut self,
+        number: u32,
+        call: &TimedCall,
+        most: usize,
+    ) -> Result<Option<CallVerdict>, Stop>
         requires few { FewOpen (lives_of self.old) number }
+        requires lines { number + 2 < 2 ^ 32 }
+        requires kept { (calls : List Call) × (length calls ≡ number) × IsKept self.old calls
+            × (is_in_order calls (plain_call call.now) ≡ true) }
         requires is_read { IsReadCall call.now }
         ensures taken { IfOk result
             (λ found. IsNone found → (calls : List Call) → length calls ≡ number → IsKept self.old calls
             → is_in_order calls (plain_call call.now) ≡ true → IsKept self.new (calls ++ plain_call call.now ∷ [])) }
-        ensures flawed { IfOk result (λ found. IfSome found (λ _. (calls : List Call) → IsKept self.old calls
-            → is_in_order calls (plain_call call.now) ≡ true → CannotBe calls call.now.begin)) }
+        ensures judged { IfOk result
+            (λ found. IfSome found (λ verdict. (calls : List Call) → length calls ≡ number → IsKept self.old calls
+            → is_in_order calls (plain_call call.now) ≡ true
+            → IsJudgedBefore calls (plain_call call.now) verdict)) }
     {
         if let Some(found) = self.end_before(u128::from(call.begin), most)? {
-            return Ok(Some(found));
+            return Ok(Some(CallVerdict::Flawed(found.number + 2, found.flaw)));
         }
         match self.begin(number, call.end, &call.entry) {
             Ok(()) => Ok(None),
-            Err(fault) => Err(Stop { number, fault }),
+            Err(NotBegun::Misused(misused)) => {
+                Ok(Some(CallVerdict::Misused(misused.number + 2, misused.misuse)))
+            }
+            Err(NotBegun::Fault(fault)) => Err(Stop { number, fault }),
         }
     }
 
-    /// Handles the remaining ends. Returns the first flaw that is found, or `None` if no flaw is found. The error is
-    /// the reason why the judge stops.
-    fn finish(&mut self, most: usize) -> Result<Option<Found>, Stop>
+    /// Handles the remaining ends, of `count` calls. Returns the verdict if a flaw is found, and `None` otherwise. The
+    /// error is the reason why the judge stops.
+    fn finish(&mut self, count: u32, most: usize) -> Result<Option<CallVerdict>, Stop>
+        requires lines { count + 1 < 2 ^ 32 }
+        requires kept { (calls : List Call) × (length calls ≡ count) × IsKept self.old calls }
         ensures linearizable { IfOk result
             (λ found. IsNone found → (calls : List Call) → IsKept self.old calls
             → IsHistory calls × IsLinearizable calls) }
-        ensures flawed { IfOk result
+        ensures judged { IfOk result
             (λ found. IfSome found
-            (λ _. (calls : List Call) → IsKept self.old calls → IsHistory calls → IsLinearizable calls → ⊥)) }
+            (λ verdict. (calls : List Call) → IsKept self.old calls → IsJudgedAtEnd calls verdict)) }
     {
-        self.end_before(LAST_MOMENT, most)
+        let Some(found) = self.end_before(LAST_MOMENT, most)? else {
+            return Ok(None);
+        };
+        Ok(Some(CallVerdict::Flawed(found.number + 2, found.flaw)))
     }
 }

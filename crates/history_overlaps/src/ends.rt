@@ -1,15 +1,16 @@
 //! Handles the ends of calls.
-ghost use Rattle.std.specs.Prelude.{◌≡◌, ◌≢◌, ◌+◌, ◌*◌, ◌<◌, ◌≤◌, ◌↔◌, ◌⊎◌, ℕ, IfOk, IfSome, IsNone, IsTrue, OnOk, None};
+ghost use Rattle.std.specs.Prelude.{◌≡◌, ◌+◌, ◌≤◌, ◌↔◌, ℕ, IfOk, IfSome, IsNone, IsTrue};
 ghost use Rattle.std.specs.Ordering.{nat_cmp};
 ghost use Rattle.std.specs.BTreeMap.{get};
 ghost use Rattle.model_history.specs.Recorded.{IsOwnRefusal, any_allocator};
 ghost use Rattle.history_overlaps.specs.Ends.{AreDisjoint, HasEndedIn, IsGone, IsNearest, IsOverlapped, Misses};
+ghost use Rattle.history_overlaps.specs.Flaws.{IsRefusalFlaw};
 ghost use Rattle.history_overlaps.specs.LifeSteps.{is_explained};
-ghost use Rattle.history_overlaps.specs.Standing.{HasEndedSo, IsFlawed, lives_of, starts_of};
+ghost use Rattle.history_overlaps.specs.Standing.{HasEndedSo, IsEnding, IsFlawed, lives_of, starts_of};
 ghost use Rattle.history_overlaps.specs.Timelines.{FewOpen};
 ghost use Rattle.history_overlaps.specs.declared.pending.Pending.{Pending};
 
-use crate::flaws::{Flaw, OutsideLife};
+use crate::flaws::Flaw;
 use crate::life::{AccessEnd, Life};
 use crate::objects::NewObject;
 use crate::pending::Pending;
@@ -30,9 +31,10 @@ impl Timeline {
         pending: Pending,
         most: usize,
     ) -> Result<Option<Flaw>, JudgeFault>
+        requires { IsEnding self.old number pending }
         ensures waiting { self.new.waiting ≡ self.old.waiting }
         ensures ended { IfOk result (λ flaw. IsNone flaw → HasEndedSo self.old self.new number pending) }
-        ensures flawed { IfOk result (λ flaw. IfSome flaw (λ _. IsFlawed self.old number pending)) }
+        ensures flawed { IfOk result (λ flaw. IfSome flaw (IsFlawed self.old number pending)) }
         ensures few { IfOk result
             (λ flaw. IsNone flaw → (count : ℕ) → FewOpen (lives_of self.old) count
             → FewOpen (lives_of self.new) count) }
@@ -42,13 +44,9 @@ impl Timeline {
                 let flaw = self.made(object)?;
                 Ok(flaw)
             }
-            Pending::Refused(cell, len, refusal) => {
-                let flaw = self.refused(cell, len, refusal)?;
-                Ok(flaw)
-            }
-            Pending::Free(cell) => Ok(self.free_ended(cell)),
+            Pending::Refused(len, refusal) => Ok(self.refused(len, refusal)),
+            Pending::Free => Ok(None),
             Pending::Access(cell) => self.access_ended(number, cell, most),
-            Pending::Wrong(outside) => Ok(Some(Flaw::Outside(outside))),
         }
     }
 
@@ -58,14 +56,11 @@ impl Timeline {
         ensures ended { IfOk result
             (λ flaw. IsNone flaw → (number : ℕ) → HasEndedSo self.old self.new number (Pending.Made object)) }
         ensures flawed { IfOk result
-            (λ flaw. IfSome flaw (λ _. (number : ℕ) → IsFlawed self.old number (Pending.Made object))) }
+            (λ flaw. IfSome flaw (λ flaw. (number : ℕ) → IsFlawed self.old number (Pending.Made object) flaw)) }
         ensures few { IfOk result
             (λ flaw. IsNone flaw → (count : ℕ) → FewOpen (lives_of self.old) count
             → FewOpen (lives_of self.new) count) }
     {
-        if self.cells.contains(object.cell) {
-            return Ok(Some(Flaw::CellAgain));
-        }
         if !is_fair_length(object.len) {
             return Ok(Some(Flaw::NoByte(RecordedReply::Object(object.serial, object.address))));
         }
@@ -75,7 +70,6 @@ impl Timeline {
         if let Some(other) = self.overlapped(object) {
             return Ok(Some(Flaw::Overlaps(other.serial, other.number)));
         }
-        self.cells.add(object.cell)?;
         self.serials.add(object.serial)?;
         set(&mut self.starts, u128::from(object.address), object.cell)?;
         set(
@@ -90,34 +84,16 @@ impl Timeline {
     }
 
     /// Handles the end of a `new` that was refused. Returns the flaw that is found, if any.
-    fn refused(&mut self, cell: u32, len: u64, refusal: Refusal) -> Result<Option<Flaw>, AllocError>
-        ensures waiting { self.new.waiting ≡ self.old.waiting }
-        ensures ended { IfOk result
-            (λ flaw. IsNone flaw → (number : ℕ)
-            → HasEndedSo self.old self.new number (Pending.Refused cell len refusal)) }
-        ensures flawed { IfOk result
-            (λ flaw. IfSome flaw (λ _. (number : ℕ) → IsFlawed self.old number (Pending.Refused cell len refusal))) }
-        ensures lives { self.new.lives ≡ self.old.lives }
+    fn refused(&self, len: u64, refusal: Refusal) -> Option<Flaw>
+        ensures ended { IsNone result
+            → (number : ℕ) → HasEndedSo self.now self.now number (Pending.Refused len refusal) }
+        ensures flawed { IfSome result
+            (λ flaw. (number : ℕ) → IsFlawed self.now number (Pending.Refused len refusal) flaw) }
     {
-        if self.cells.contains(cell) {
-            return Ok(Some(Flaw::CellAgain));
+        if is_own_refusal(len, refusal) {
+            return None;
         }
-        if !is_own_refusal(len, refusal) {
-            return Ok(Some(unfair_refusal(len, refusal)));
-        }
-        self.cells.add(cell)?;
-        Ok(None)
-    }
-
-    /// Handles the end of a `free`. Returns a flaw if a second `free` of the object has begun.
-    fn free_ended(&self, cell: u32) -> Option<Flaw>
-        ensures ended { IsNone result → (number : ℕ) → HasEndedSo self.now self.now number (Pending.Free cell) }
-        ensures flawed { IfSome result (λ _. (number : ℕ) → IsFlawed self.now number (Pending.Free cell)) }
-    {
-        if self.freed_twice.contains(cell) {
-            return Some(Flaw::Outside(OutsideLife::NotBeforeFree));
-        }
-        None
+        Some(unfair_refusal(len, refusal))
     }
 
     /// Handles the end of an access. Returns the flaw that is found, if any. The errors are those of `Life::end`.
@@ -127,9 +103,10 @@ impl Timeline {
         cell: u32,
         most: usize,
     ) -> Result<Option<Flaw>, JudgeFault>
+        requires { IsEnding self.old number (Pending.Access cell) }
         ensures waiting { self.new.waiting ≡ self.old.waiting }
         ensures ended { IfOk result (λ flaw. IsNone flaw → HasEndedSo self.old self.new number (Pending.Access cell)) }
-        ensures flawed { IfOk result (λ flaw. IfSome flaw (λ _. IsFlawed self.old number (Pending.Access cell))) }
+        ensures flawed { IfOk result (λ flaw. IfSome flaw (IsFlawed self.old number (Pending.Access cell))) }
         ensures few { IfOk result
             (λ flaw. IsNone flaw → (count : ℕ) → FewOpen (lives_of self.old) count
             → FewOpen (lives_of self.new) count) }
@@ -137,7 +114,7 @@ impl Timeline {
         match end_in(&mut self.lives, self.alloc, number, cell, most)? {
             Some(AccessEnd::Explained) => Ok(None),
             Some(AccessEnd::Unexplained(answer)) => Ok(Some(Flaw::NoOrder(answer))),
-            None => Ok(Some(Flaw::Outside(OutsideLife::NotBeforeFree))),
+            None => unreachable!(),
         }
     }
 
@@ -206,7 +183,9 @@ fn is_fair_length(len: u64) -> bool
 }
 
 /// Returns the flaw of a `new` of this length that was refused for a reason that no allocator may have.
-fn unfair_refusal(len: u64, refusal: Refusal) -> Flaw {
+fn unfair_refusal(len: u64, refusal: Refusal) -> Flaw
+    ensures { IsRefusalFlaw refusal result }
+{
     if len == 0 {
         return Flaw::NoByte(RecordedReply::Refused(refusal));
     }

@@ -3,13 +3,9 @@ use crate::possible::Unexplained;
 use history_reading::RecordedReply;
 use model_words::Refusal;
 
-/// The reason why no order of effect explains a history.
+/// The reason why no order of effect explains a history: an answer that no allocator may give.
 #[derive(Drop)]
 pub enum Flaw {
-    /// The call isn't between the `new` and the `free` of its object.
-    Outside(OutsideLife),
-    /// The cell of the `new` is also the cell of an earlier `new`.
-    CellAgain,
     /// The serial of the new object was already given to an earlier object.
     SerialAgain,
     /// A `new` of 0 bytes has this answer. The only answer that an allocator may give to such a `new` is the refusal
@@ -23,13 +19,4 @@ pub enum Flaw {
     Overlaps(u32, u32),
     /// No order of the accesses to the object explains the answer.
     NoOrder(Unexplained),
-}
-
-/// The reason why a call isn't between the `new` and the `free` of its object.
-#[derive(Clone, Copy, PartialEq, Eq)]
-pub enum OutsideLife {
-    /// The call doesn't begin after the end of the `new`.
-    NotAfterNew,
-    /// The call doesn't end before the start of the `free`.
-    NotBeforeFree,
 }

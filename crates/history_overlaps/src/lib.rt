@@ -18,6 +18,7 @@ mod ends;
 mod flaws;
 mod keys;
 mod life;
+mod misuses;
 mod objects;
 mod orders;
 mod own_orders;
@@ -31,7 +32,8 @@ mod verdicts;
 
 pub use begins::access_of;
 pub use checks::check_calls;
-pub use flaws::{Flaw, OutsideLife};
+pub use flaws::Flaw;
+pub use misuses::{Misuse, Misused, NotBegun};
 pub use orders::linearize;
 pub use possible::{Loads, Possible, Unexplained};
 pub use stops::{Found, Stop};

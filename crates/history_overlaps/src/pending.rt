@@ -1,5 +1,4 @@
 //! `Pending`: what must be done at the end of a call.
-use crate::flaws::OutsideLife;
 use crate::objects::NewObject;
 use model_words::Refusal;
 
@@ -8,12 +7,10 @@ use model_words::Refusal;
 pub enum Pending {
     /// A `new` made this object.
     Made(NewObject),
-    /// `Refused(cell, len, refusal)`: a `new` with this cell and this length was refused.
-    Refused(u32, u64, Refusal),
-    /// The object of this cell was freed.
-    Free(u32),
+    /// `Refused(len, refusal)`: a `new` of this length was refused.
+    Refused(u64, Refusal),
+    /// An object was freed.
+    Free,
     /// The object of this cell was accessed.
     Access(u32),
-    /// The call isn't between the `new` and the `free` of its object. This was already found when the call began.
-    Wrong(OutsideLife),
 }

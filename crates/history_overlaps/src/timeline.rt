@@ -1,5 +1,5 @@
 //! `Timeline`, which handles the starts and ends of calls in the order of time.
-ghost use Rattle.std.specs.Prelude.{◌≡◌, ◌⊎◌, ◌↔◌, ◌+◌, ◌*◌, ◌++◌, ◌∷◌, ◌<◌, ◌≤◌, ◌^◌, [], ℕ, List, IfOk, IfSome, IsNone, OnOk, Some, length};
+ghost use Rattle.std.specs.Prelude.{◌≡◌, ◌⊎◌, ◌↔◌, ◌+◌, ◌*◌, ◌++◌, ◌∷◌, ◌<◌, ◌≤◌, ◌^◌, [], ℕ, List, IfErr, IfOk, IfSome, IsNone, OnOk, Some, length};
 ghost use Rattle.std.specs.Ordering.{nat_cmp};
 ghost use Rattle.std.specs.BTreeMap.{Updates, get};
 ghost use Rattle.model_intervals.specs.Intervals.{Call};
@@ -9,14 +9,14 @@ ghost use Rattle.text_words.specs.RecordedWords.{plain_entry, plain_reply};
 ghost use Rattle.history_number_set.specs.Ranges.{Has};
 ghost use Rattle.history_overlaps.specs.Ends.{AreEnded, IsFirstBefore, IsRuledOut, NoneBefore, Past};
 ghost use Rattle.history_overlaps.specs.Queues.{MayBegin};
-ghost use Rattle.history_overlaps.specs.Standing.{Stands, lives_of, waits_of};
+ghost use Rattle.history_overlaps.specs.Standing.{IsMisusedSo, Stands, lives_of, waits_of};
 ghost use Rattle.history_overlaps.specs.Timelines.{FewOpen};
 
 use crate::life::Life;
+use crate::misuses::NotBegun;
 use crate::pending::Pending;
 use crate::stops::{Found, Stop};
 use history_number_set::NumberSet;
-use history_object::JudgeFault;
 use history_reading::RecordedEntry;
 use std::alloc::{AllocError, Global};
 use std::collections::BTreeMap;
@@ -34,14 +34,12 @@ pub struct Timeline {
     pub(crate) lives: BTreeMap<u32, Life>,
     /// The cells of the live objects by their addresses.
     pub(crate) starts: BTreeMap<u128, u32>,
-    /// The cell of each `new` that has ended.
+    /// The cell of each `new` that has begun.
     pub(crate) cells: NumberSet,
     /// The serials of all objects that were made.
     pub(crate) serials: NumberSet,
-    /// The cells of the objects that were freed.
+    /// The cells of the objects whose `free` has begun.
     pub(crate) freed: NumberSet,
-    /// The cells of the objects for which a second `free` has begun.
-    pub(crate) freed_twice: NumberSet,
     pub(crate) alloc: Global,
 }
 
@@ -58,7 +56,6 @@ impl Timeline {
             cells: NumberSet::new(alloc),
             serials: NumberSet::new(alloc),
             freed: NumberSet::new(alloc),
-            freed_twice: NumberSet::new(alloc),
             alloc,
         }
     }
@@ -66,14 +63,16 @@ impl Timeline {
     /// Handles the start of the next call. `number` is the number of calls that began before this call. `end` and
     /// `entry` are the end and the entry of this call.
     ///
-    /// The error is `TooManyPending` if 64 accesses to the call's object are already pending, and `Memory` if an
-    /// allocation fails. After an error, the timeline must not be used.
-    pub fn begin(&mut self, number: u32, end: u64, entry: &RecordedEntry) -> Result<(), JudgeFault>
+    /// The error is `Misused` if this call breaks a rule of use, or if this is a `free` and an access to the object is
+    /// pending, which then breaks a rule. It is `TooManyPending` if 64 accesses to the call's object are already
+    /// pending, and `Memory` if an allocation fails. After an error, the timeline must not be used.
+    pub fn begin(&mut self, number: u32, end: u64, entry: &RecordedEntry) -> Result<(), NotBegun>
         requires effect { HasEffect (plain_command entry.now.command) (plain_reply entry.now.reply) }
         requires few { FewOpen (lives_of self.old) number }
         ensures stands { OnOk result ((calls : List Call) (begin : ℕ) → length calls ≡ number → Stands calls self.old
             → MayBegin calls (waits_of self.old) (record { begin = begin; end = end; entry = plain_entry entry.now })
             → Stands (calls ++ record { begin = begin; end = end; entry = plain_entry entry.now } ∷ []) self.new) }
+        ensures misused { IfErr result (IsMisusedSo self.old number (plain_entry entry.now)) }
         ensures past { OnOk result
             ((calls : List Call) (call : Call) (moment : ℕ) → length calls ≡ number → call.end ≡ end
             → Past calls (waits_of self.old) moment
@@ -92,10 +91,11 @@ impl Timeline {
     /// The error is `TooMany` if more than `most` configurations of an object are met at the end of a call, and
     /// `Memory` if an allocation fails. After a flaw or an error, the timeline must not be used.
     pub fn end_before(&mut self, moment: u128, most: usize) -> Result<Option<Found>, Stop>
-        requires { moment ≤ 2 ^ 64 }
+        requires moment { moment ≤ 2 ^ 64 }
+        requires stands { (calls : List Call) × Stands calls self.old }
         ensures ended { IfOk result
             (λ found. IsNone found → AreEnded self.old self.new moment × NoneBefore (waits_of self.new) moment) }
-        ensures flawed { IfOk result (λ found. IfSome found (λ _. IsRuledOut self.old moment)) }
+        ensures flawed { IfOk result (λ found. IfSome found (IsRuledOut self.old moment)) }
     {
         while let Some((number, pending)) = first_before(&mut self.waiting, moment) {
             match self.ended(number, pending, most) {

@@ -1,5 +1,6 @@
 //! `CallVerdict`, the verdict on a history of overlapping calls.
 use crate::flaws::Flaw;
+use crate::misuses::Misuse;
 use history_object::JudgeFault;
 
 /// The verdict on a history of overlapping calls.
@@ -7,8 +8,11 @@ use history_object::JudgeFault;
 pub enum CallVerdict {
     /// Some order of effect explains all calls. The number is the number of calls.
     Linearizable(u32),
-    /// `Flawed(line, flaw)`: the calls are no history, or no order of effect explains them. The flaw is the reason. It
-    /// was found at the end of the call in this line.
+    /// `Misused(line, misuse)`: the calls are no history, because the call in this line breaks a rule of use. So the
+    /// recorded program is wrong, and nothing is said of the allocator.
+    Misused(u32, Misuse),
+    /// `Flawed(line, flaw)`: no order of effect explains the calls. The flaw is the reason. It was found at the end of
+    /// the call in this line. The calls that began before that end break no rule of use, so the allocator is wrong.
     Flawed(u32, Flaw),
     /// `Undecided(line, fault)`: the judge stopped at the call in this line. The fault is the reason: too many
     /// configurations, or too many pending accesses.

@@ -5,7 +5,7 @@ use Rattle.model_jobs.specs.Texts.{number_field}
 use Rattle.history_reading.specs.declared.faults.CallError.{CallError}
 use Rattle.history_reading.specs.declared.faults.CallError.TheVariants.{Text as CallText, Order as CallOrder, Read as CallRead, Memory as CallMemory}
 use Rattle.history_in_order.specs.declared.verdicts.Verdict.TheVariants.{Legal, Wrong}
-use Rattle.history_overlaps.specs.declared.verdicts.CallVerdict.TheVariants.{Linearizable, Flawed, Undecided}
+use Rattle.history_overlaps.specs.declared.verdicts.CallVerdict.TheVariants.{Linearizable, Misused, Flawed, Undecided}
 use Rattle.history_judge.specs.JudgementTexts.{judgement_text}
 use Rattle.history_judge.specs.Judgements.{HasJudged, HasNotJudged}
 use Rattle.history_judge.specs.declared.judging.Judgement.{Judgement}
@@ -45,6 +45,7 @@ abbrev pub judgement_status : Judgement → ℕ
 judgement_status (InOrder (Legal entries)) = 0
 judgement_status (InOrder (Wrong line reason)) = 3
 judgement_status (Overlapping (Linearizable entries)) = 0
+judgement_status (Overlapping (Misused line misuse)) = 3
 judgement_status (Overlapping (Flawed line flaw)) = 3
 judgement_status (Overlapping (Undecided line fault)) = 4
 

@@ -80,6 +80,7 @@ pub(crate) fn status_of_judgement(judgement: &Judgement) -> u8
         Judgement::InOrder(Verdict::Legal(_)) => DONE,
         Judgement::InOrder(Verdict::Wrong(_, _)) => NEGATIVE,
         Judgement::Overlapping(CallVerdict::Linearizable(_)) => DONE,
+        Judgement::Overlapping(CallVerdict::Misused(_, _)) => NEGATIVE,
         Judgement::Overlapping(CallVerdict::Flawed(_, _)) => NEGATIVE,
         Judgement::Overlapping(CallVerdict::Undecided(_, _)) => UNDECIDED,
     }

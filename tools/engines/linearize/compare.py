@@ -4,15 +4,16 @@
     tools/engines/linearize/compare.py [COUNT [SEED]]
 
 COUNT is the number of histories, by default 1,000, and SEED the first seed, by default 1. A history has 2 to 7 calls of
-2 to 4 threads. It is compared if orders.py can judge it: each `new` has a cell of its own, and each other call is
-between the `new` and the `free` of its cell. For the other histories, reference.py must find a flaw. Compared are
+2 to 4 threads. It is a history if each `new` has a cell of its own, and each other call is between the `new` and the
+`free` of its cell. If it isn't, its calls are a history up to some call that begins. Then reference.py must report that
+they are none, unless a call is wrong that ended before. Compared are
 
 - whether the history is linearizable;
 - the line of a flaw. It is the first call, in the order of ends, at whose end no order is right of the calls that ended
   by then, with or without some of the pending ones;
-- the possible answers of a `get`. They are those with which there is such an order that has the `get` after all calls
-  that ended before it. Other answers may be possible for an earlier `get`: before a store that began and ended while
-  the `get` was pending.
+- the possible answers of a `get`, if it took effect last. They are those with which there is such an order that has the
+  `get` after all calls that ended before it. Other answers may be possible for an earlier `get`: before a store that
+  began and ended while the `get` was pending.
 
 Each history that differs is a line of the output, and the last line counts them, by kind of verdict. The status is 1 if
 one differs.
@@ -78,14 +79,24 @@ def difference(calls, verdict):
         return "not whether it is linearizable"
     if call and not verdict.startswith(f"line {call.line}: "):
         return f"line {call.line}"
-    if call and call.word == "get" and not verdict.endswith(f"; possible: {possible_answers(call, calls)}"):
-        return f"possible: {possible_answers(call, calls)}"
+    possible = possible_answers(call, calls) if call and call.word == "get" else ""
+    if not verdict.endswith(f"; possible if it took effect last: {possible}" if possible else ""):
+        return f"possible: {possible}"
     return None
+
+
+def difference_of_none(calls, verdict):
+    """How the verdict on calls that are no history differs from what all orders have, or None."""
+    begun = next(count for count in range(len(calls)) if not is_history(calls[:count + 1]))
+    call = unexplained(calls[:begun])
+    if call and call.end < calls[begun].begin:
+        return None if verdict.startswith(f"line {call.line}: ") and "no history" not in verdict else f"line {call.line}"
+    return None if "no history" in verdict else "no history"
 
 
 def kind_of_verdict(verdict):
     """A verdict without its numbers and answers."""
-    return next(kind for kind in ("linearizable", "no order", "serial", "overlaps", "cell", "not") if kind in verdict)
+    return next(kind for kind in ("linearizable", "no order", "serial", "overlaps", "no history") if kind in verdict)
 
 
 def main():
@@ -95,12 +106,8 @@ def main():
         text = random_histories.history(seed, 2 + seed % 6, 2 + seed % 3)
         calls, _ = reference.calls_of_text(text)
         verdict = reference.judged(text, LIMIT)[1]
-        if is_history(calls):
-            kinds[kind_of_verdict(verdict)] += 1
-            told = difference(calls, verdict)
-        else:
-            kinds["left out"] += 1
-            told = "no history" if verdict.startswith("linearizable") else None
+        kinds[kind_of_verdict(verdict)] += 1
+        told = difference(calls, verdict) if is_history(calls) else difference_of_none(calls, verdict)
         if told:
             differing += 1
             print(f"seed {seed}: {verdict}, but {told}")

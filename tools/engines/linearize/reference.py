@@ -6,8 +6,9 @@
 FILE is a history of version 2, or `-` for standard input. The text must be well-formed, except for the order of its
 lines. At most N configurations of an object, by default 100,000, are visited at the end of one call.
 
-The output is the verdict in one line: the first flaw in the order of ends, and at equal ends in the order of lines. The
-status is 0 if there is none, 3 if there is one, and 4 if the configurations don't suffice. A fault of the order of
+The output is the verdict in one line: the first flaw in the order of ends, and at equal ends in the order of lines; or
+the first call that breaks a rule of use, if the call at whose begin this is certain begins no later than that end. The
+status is 0 if there is neither, 3 if there is one, and 4 if the configurations don't suffice. A fault of the order of
 lines has status 2, and `line L: ORDER` on standard error.
 
 Each object is judged by itself (Herlihy and Wing: linearizability is local). Its calls are taken forward in time, with
@@ -25,6 +26,7 @@ import dataclasses
 import heapq
 import sys
 
+CELL_AGAIN = "cell again"
 NOT_AFTER_NEW = "not after its new"
 NOT_BEFORE_FREE = "not before its free"
 OUTSIDE = "refused 7 OUTSIDE"
@@ -108,8 +110,9 @@ def listed(possible):
 
 
 def unexplained(answer, possible):
-    """The reason of a call whose answer is none of the possible ones."""
-    return f"no order explains {answer}; possible: {listed(possible)}"
+    """The reason of a call whose answer is none of the possible ones. Loads are those of a load behind all others."""
+    last = " if it took effect last" if possible and all(one.startswith("bytes ") for one in possible) else ""
+    return f"no order explains {answer}; possible{last}: {listed(possible)}"
 
 
 # ---- The calls that make objects ----
@@ -160,7 +163,6 @@ class News:
     """What is known of the calls of `new` that have ended, and of the calls of `free` that have begun."""
 
     def __init__(self):
-        self.cells = set()
         self.serials = set()
         self.freed = set()
         self.ranges = Ranges()
@@ -173,9 +175,6 @@ class News:
 
     def new_ends(self, call):
         """Takes the end of a `new`; its reason if it has a flaw, or None."""
-        if call.cell in self.cells:
-            return "cell again"
-        self.cells.add(call.cell)
         made = object_of_new(call)
         return flaw_of_answer(call) or (made and self.flaw_of_object(made))
 
@@ -283,43 +282,58 @@ class Accesses:
         return unexplained(ending.answer, {self.answer(ending, state) for state, _ in met})
 
 
-def flaw_of_life(call, made, frees):
-    """The reason why a call isn't between the `new` and the `free` of its cell, or None.
-
-    `made` is the object of the cell, None if no `new` that made one has ended; `frees` are those that have begun.
-    """
-    begins = [free.begin for free in frees if free is not call]
-    if made is None:
-        return NOT_AFTER_NEW
-    if begins and begins[0] <= call.begin:
-        return NOT_BEFORE_FREE
-    if call.begin <= made.call.end:
-        return NOT_AFTER_NEW
-    return NOT_BEFORE_FREE if begins else None
-
-
 def first_flaw_of_cell(calls, limit):
-    """The first flaw of a call that isn't a `new`, of the calls of one cell, as a pair (call, reason), or None.
-
-    A call that begins before the end of its `new` is no access of the object: it has no effect on the bytes.
-    """
-    made, accesses, frees = None, None, []
+    """The first flaw of an access, of the calls of one cell that break no rule, as a pair (call, reason), or None."""
+    accesses = None
     for is_begin, call in moments(calls):
-        if call.word == "new":
-            if not is_begin and not made:
-                made = object_of_new(call)
-                accesses = made and Accesses(made, [call for call in calls if call.word == "put"], limit)
+        if call.word == "new" and not is_begin:
+            made = object_of_new(call)
+            accesses = made and Accesses(made, [call for call in calls if call.word == "put"], limit)
+        elif call.word in ("new", "free"):
+            continue
         elif is_begin:
-            if call.word == "free":
-                frees.append(call)
-            elif made:
-                accesses.begin(call)
+            accesses.begin(call)
         else:
-            reason = flaw_of_life(call, made, frees)
-            if not reason and call.word != "free":
-                reason = accesses.end(call)
+            reason = accesses.end(call)
             if reason:
                 return call, reason
+    return None
+
+
+# ---- The rules of use ----
+
+@dataclasses.dataclass(slots=True)
+class Misuse:
+    """A call that breaks a rule of use, and which; and how many calls begin before the one at whose begin this is
+    certain."""
+    call: Call
+    reason: str
+    before: int
+
+
+def misuse_at_begin(call, earlier):
+    """The call that breaks a rule as `call` begins, and the rule, or None. `earlier` are the calls of its cell that began
+    before; none of them breaks a rule."""
+    if call.word == "new":
+        return (call, CELL_AGAIN) if any(other.word == "new" for other in earlier) else None
+    if any(other.word == "free" for other in earlier):
+        return call, NOT_BEFORE_FREE
+    if not any(object_of_new(other) and other.end < call.begin for other in earlier if other.word == "new"):
+        return call, NOT_AFTER_NEW
+    if call.word != "free":
+        return None
+    pending = [other for other in earlier if other.word != "new" and other.end >= call.begin]
+    return (min(pending, key=lambda other: (other.end, other.line)), NOT_BEFORE_FREE) if pending else None
+
+
+def first_misuse(calls):
+    """The first call that breaks a rule of use, or None."""
+    of_cell = collections.defaultdict(list)
+    for before, call in enumerate(calls):
+        found = misuse_at_begin(call, of_cell[call.cell])
+        if found:
+            return Misuse(*found, before)
+        of_cell[call.cell].append(call)
     return None
 
 
@@ -347,7 +361,10 @@ def judged(text, limit):
     line began is reported instead.
     """
     calls, fault = calls_of_text(text)
-    flaw = first_flaw(calls, limit)
+    misuse = first_misuse(calls)
+    flaw = first_flaw(calls[:misuse.before] if misuse else calls, limit)
+    if misuse and not (flaw and flaw[0].end < calls[misuse.before].begin):
+        return 3, f"line {misuse.call.line}: no history: {misuse.reason}", None
     if fault and not (flaw and flaw[0].end < calls[-1].begin):
         return 2, None, f"line {fault.args[0]}: ORDER"
     if flaw:

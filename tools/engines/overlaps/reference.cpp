@@ -111,7 +111,8 @@ void cut(std::string_view text, Fields& fields) {
 bool begins_with(std::string_view text, std::string_view start) { return text.substr(0, start.size()) == start; }
 
 std::string unexplained(const std::string& answer, const std::string& possible) {
-    return "no order explains " + answer + "; possible: " + possible;
+    const char* last = begins_with(possible, "bytes ") ? " if it took effect last" : "";
+    return "no order explains " + answer + "; possible" + last + ": " + possible;
 }
 
 // ---- Accesses ----
@@ -597,8 +598,7 @@ struct Call {
     std::string word, answer;
     uint64_t length = 0, address = 0;
     uint32_t serial = 0;
-    /// Of a `free`, how many of its cell began before it; of an access, its place in the object's judge.
-    size_t earlier_frees = 0;
+    /// Of an access, its place in the object's judge.
     std::optional<unsigned> place = {};
 
     bool is_object() const { return begins_with(answer, "object "); }
@@ -606,19 +606,15 @@ struct Call {
 
 struct Object {
     uint32_t serial, line;
-    uint64_t address, length, made_at;
+    uint64_t address, length;
     Judge judge;
 };
 
 /// What is known of a cell.
 struct Cell {
-    bool has_new = false;
-    /// The moment at which the `new` that made its object ended.
-    std::optional<uint64_t> made_at;
-    /// The begins of the first two calls of `free`, and how many there were.
-    std::array<uint64_t, 2> free_begins;
-    size_t frees = 0;
-    /// From the end of the `new` to the begin of the first `free`.
+    /// Whether a `new` and a `free` of it have begun.
+    bool has_new = false, is_freed = false;
+    /// From the end of the `new` to the begin of the `free`.
     std::unique_ptr<Object> object;
 };
 
@@ -649,8 +645,10 @@ public:
 
     std::optional<Verdict> begin(Call call, const Fields& asked) {
         Cell& cell = cells_[call.cell];
-        if (call.word == "free") begin_free(call, cell);
-        else if (call.word != "new" && cell.object) {
+        if (auto verdict = misuse(call, cell)) return verdict;
+        if (call.word == "new") cell.has_new = true;
+        else if (call.word == "free") begin_free(cell);
+        else {
             if (cell.object->judge.is_full()) return undecided(call, "64 pending accesses to one object");
             call.place = cell.object->judge.begin(access_of(call, asked, *cell.object));
             if (!call.place) return undecided(call, std::to_string(search_.limit) + " configurations");
@@ -665,11 +663,26 @@ private:
         return {4, "undecided at line " + std::to_string(call.line) + ": more than " + most};
     }
 
-    void begin_free(Call& call, Cell& cell) {
-        call.earlier_frees = cell.frees;
-        if (cell.frees < 2) cell.free_begins[cell.frees] = call.begin;
-        cell.frees++;
-        if (cell.object) starts_.erase(cell.object->address);
+    static Verdict no_history(uint32_t line, const std::string& rule) {
+        return {3, "line " + std::to_string(line) + ": no history: " + rule};
+    }
+
+    /// The verdict if a call breaks a rule of use as `call` begins: the call itself, or an access that its `free`
+    /// doesn't wait for.
+    std::optional<Verdict> misuse(const Call& call, const Cell& cell) const {
+        if (call.word == "new") return cell.has_new ? std::optional(no_history(call.line, "cell again")) : std::nullopt;
+        if (cell.is_freed) return no_history(call.line, not_before_free);
+        if (!cell.object) return no_history(call.line, not_after_new);
+        if (call.word != "free") return {};
+        for (const auto& [key, other] : waiting_) {
+            if (other.cell == call.cell && other.word != "new") return no_history(other.line, not_before_free);
+        }
+        return {};
+    }
+
+    void begin_free(Cell& cell) {
+        cell.is_freed = true;
+        starts_.erase(cell.object->address);
         cell.object.reset();
     }
 
@@ -692,7 +705,7 @@ private:
     std::optional<Verdict> end_next() {
         Call call = std::move(waiting_.extract(waiting_.begin()).mapped());
         Cell& cell = cells_[call.cell];
-        std::string reason = call.word == "new" ? end_new(call, cell) : flaw_of_life(call, cell);
+        std::string reason = call.word == "new" ? end_new(call, cell) : "";
         if (reason.empty() && call.place) {
             End end = cell.object->judge.end(*call.place);
             if (end == End::too_many) return undecided(call, std::to_string(search_.limit) + " configurations");
@@ -704,8 +717,6 @@ private:
 
     /// Takes the end of a `new`. Returns the reason if it has a flaw, or nothing.
     std::string end_new(const Call& call, Cell& cell) {
-        if (cell.has_new) return "cell again";
-        cell.has_new = true;
         if (call.length == 0) return call.answer == "refused 1 ZERO" ? "" : unexplained(call.answer, "refused 1 ZERO");
         if (!call.is_object()) {
             for (const char* fair : {"refused 2 ", "refused 3 ", "refused 4 "}) {
@@ -717,9 +728,7 @@ private:
         if (const Object* other = overlapped(call)) {
             return "overlaps object " + std::to_string(other->serial) + ", made at line " + std::to_string(other->line);
         }
-        cell.made_at = call.end;
-        if (cell.frees > 0) return {};
-        cell.object.reset(new Object{call.serial, call.line, call.address, call.length, call.end, Judge(search_)});
+        cell.object.reset(new Object{call.serial, call.line, call.address, call.length, Judge(search_)});
         starts_[call.address] = cell.object.get();
         return {};
     }
@@ -732,17 +741,6 @@ private:
         if (behind == starts_.begin()) return nullptr;
         const Object* other = std::prev(behind)->second;
         return other->address + static_cast<unsigned __int128>(other->length) > made.address ? other : nullptr;
-    }
-
-    /// The reason why a call isn't between the `new` and the `free` of its cell, or nothing.
-    static std::string flaw_of_life(const Call& call, const Cell& cell) {
-        bool is_free = call.word == "free";
-        size_t frees = cell.frees - is_free;
-        uint64_t first = cell.free_begins[is_free && call.earlier_frees == 0];
-        if (!cell.made_at) return not_after_new;
-        if (frees > 0 && first <= call.begin) return not_before_free;
-        if (call.begin <= *cell.made_at) return not_after_new;
-        return frees > 0 ? not_before_free : "";
     }
 
     /// The answers that an access could have had, as a text: the first of them, and two dots if there are more.

@@ -120,5 +120,5 @@ def possible_loads(suite):
         rows = ["history 2", "0 0 1 new 0 2 0 -> object 5 at 1000"]
         rows += [f"{worker} 2 9 put 0 0 0{worker} -> done" for worker in range(1, stores + 1)]
         history = suite.write("loads.history", lines([*rows, "99 3 4 get 0 0 1 -> bytes ff"]))
-        wanted = line(f"line {stores + 3}: no order explains bytes ff; possible: {named}{more}")
+        wanted = line(f"line {stores + 3}: no order explains bytes ff; possible if it took effect last: {named}{more}")
         suite.check(f"overlaps: a load among {stores} pending stores", 3, wanted, NOTHING, "check", history)

@@ -7,14 +7,12 @@ use Rattle.history_reading.specs.CallReadings.{CallReading, is_in_order}
 use Rattle.history_reading.specs.CallWords.{plain_call}
 use Rattle.history_reading.specs.declared.words.TimedCall.{TimedCall}
 use Rattle.history_reading.proofs.Readings.{handed_on}
-use Rattle.history_overlaps.specs.Checks.{HasNotJudged, IsKept, IsTold}
-use Rattle.history_overlaps.specs.Lives.{CannotBe}
+use Rattle.history_overlaps.specs.Checks.{HasNotJudged, IsJudgedAtEnd, IsJudgedBefore, IsKept, IsTold}
 use Rattle.history_overlaps.specs.Standing.{lives_of}
 use Rattle.history_overlaps.specs.Timelines.{FewOpen}
-use Rattle.history_overlaps.specs.declared.stops.Found.{Found}
 use Rattle.history_overlaps.specs.declared.stops.Stop.{Stop}
 use Rattle.history_overlaps.specs.declared.verdicts.CallVerdict.{CallVerdict}
-use Rattle.history_overlaps.proofs.CheckSteps.{judged_by, not_judged, unexplained_text}
+use Rattle.history_overlaps.proofs.CheckSteps.{judged_at_end, judged_before, judged_by, not_judged}
 use Rattle.history_overlaps.proofs.checks.judge_calls.Goals as goal
 
 pub returns-in_err-call-clause-fault : goal.returns-in_err-call-clause-fault
@@ -39,17 +37,35 @@ take-requires-clause-few g c =
     let line = next.line in let is = c.lines-number.ensures in
     subst (λ (n : ℕ). FewOpen (lives_of c.loop-call.timeline) n) (omega (arith, line, is)) taken.kept.few
 
+pub take-requires-clause-lines : goal.take-requires-clause-lines
+take-requires-clause-lines g c =
+    let left = g.I.Source.remaining c.args.input.now in let left' = g.I.Source.remaining c.next.new.input in
+    let taken = c.loop-call.invariant.taken in
+    let next = subst (λ (o : Option TimedCall). IfSome o (HasNext c.next.new.self left left' taken.calls)) c.in-Some.is (c.in_ok-call.ensures.call left taken.calls taken.come) in
+    let line = next.line in let is = c.lines-number.ensures in
+    let fits = c.lines-number.type_inv in omega (arith, line, is, fits)
+
+pub take-requires-clause-kept : goal.take-requires-clause-kept
+take-requires-clause-kept g c =
+    let left = g.I.Source.remaining c.args.input.now in let left' = g.I.Source.remaining c.next.new.input in
+    let taken = c.loop-call.invariant.taken in
+    let next = subst (λ (o : Option TimedCall). IfSome o (HasNext c.next.new.self left left' taken.calls)) c.in-Some.is (c.in_ok-call.ensures.call left taken.calls taken.come) in
+    let line = next.line in let is = c.lines-number.ensures in
+    (taken.calls, omega (arith, line, is), taken.kept, next.in_order)
+
 pub returns-in-Some-2-clause-judged : goal.returns-in-Some-2-clause-judged
 returns-in-Some-2-clause-judged g c =
     let left = g.I.Source.remaining c.args.input.now in let left' = g.I.Source.remaining c.next.new.input in
     let taken = c.loop-call.invariant.taken in
     let next = subst (λ (o : Option TimedCall). IfSome o (HasNext c.next.new.self left left' taken.calls)) c.in-Some.is (c.in_ok-call.ensures.call left taken.calls taken.come) in
+    let line = next.line in let is = c.lines-number.ensures in
     let told = subst (λ (o : Option CallVerdict). IfSome o (IsTold c.take.result)) c.in-Some-2.is c.in_ok-verdict.ensures.told in
     judged_by left left' c.take.result
-    ((calls : List Call) → IsKept c.loop-call.timeline calls → is_in_order calls (plain_call c.in-Some.call) ≡ true → CannotBe calls c.in-Some.call.begin)
-    c.take.ensures.flawed
-    (λ cannot. let text = unexplained_text c.next.new.self left left' taken.calls (plain_call c.in-Some.call) next.come (cannot taken.calls taken.kept next.in_order) in
-    (text.0, text.1, inl text.2))
+    (λ verdict. (calls : List Call) → length calls ≡ c.lines-number.result - 2 → IsKept c.loop-call.timeline calls → is_in_order calls (plain_call c.in-Some.call) ≡ true
+    → IsJudgedBefore calls (plain_call c.in-Some.call) verdict)
+    c.take.ensures.judged
+    (λ verdict judged. judged_before c.next.new.self left left' taken.calls (plain_call c.in-Some.call) next.come verdict
+    (judged taken.calls (omega (arith, line, is)) taken.kept next.in_order))
     c.in-Some-2.verdict told
 
 pub loop-call-preserved : goal.loop-call-preserved
@@ -59,7 +75,7 @@ loop-call-preserved g c =
     let next = subst (λ (o : Option TimedCall). IfSome o (HasNext c.next.new.self left left' taken.calls)) c.in-Some.is (c.in_ok-call.ensures.call left taken.calls taken.come) in
     let line = next.line in let is = c.lines-number.ensures in
     let none = subst (λ (o : Option CallVerdict). IsNone o → c.take.result ≡ Ok None) c.in_default-2.is c.in_ok-verdict.ensures.none refl in
-    let on = subst (λ (r : Result (Option Found) Stop). IfOk r (λ found. IsNone found → (calls : List Call) → length calls ≡ c.lines-number.result - 2 → IsKept c.loop-call.timeline calls
+    let on = subst (λ (r : Result (Option CallVerdict) Stop). IfOk r (λ found. IsNone found → (calls : List Call) → length calls ≡ c.lines-number.result - 2 → IsKept c.loop-call.timeline calls
     → is_in_order calls (plain_call c.in-Some.call) ≡ true → IsKept c.take.new.self (calls ++ plain_call c.in-Some.call ∷ []))) none c.take.ensures.taken in
     record {
       open_input = c.in_ok-call.ensures.ok;
@@ -77,19 +93,31 @@ overflow_sub-count g c =
     let ended = subst (λ (o : Option TimedCall). IsNone o → HasEnded c.next.new.self left left' taken.calls) c.in_default.is (c.in_ok-call.ensures.ended left taken.calls taken.come) refl in
     let lines = ended.lines in let is = c.lines-count.ensures in omega (arith, lines, is)
 
+pub finish-requires-clause-lines : goal.finish-requires-clause-lines
+finish-requires-clause-lines g c =
+    let left = g.I.Source.remaining c.args.input.now in let left' = g.I.Source.remaining c.next.new.input in
+    let taken = c.loop-call.invariant.taken in
+    let ended = subst (λ (o : Option TimedCall). IsNone o → HasEnded c.next.new.self left left' taken.calls) c.in_default.is (c.in_ok-call.ensures.ended left taken.calls taken.come) refl in
+    let lines = ended.lines in let is = c.lines-count.ensures in
+    let fits = c.lines-count.type_inv in omega (arith, lines, is, fits)
+
+pub finish-requires-clause-kept : goal.finish-requires-clause-kept
+finish-requires-clause-kept g c =
+    let left = g.I.Source.remaining c.args.input.now in let left' = g.I.Source.remaining c.next.new.input in
+    let taken = c.loop-call.invariant.taken in
+    let ended = subst (λ (o : Option TimedCall). IsNone o → HasEnded c.next.new.self left left' taken.calls) c.in_default.is (c.in_ok-call.ensures.ended left taken.calls taken.come) refl in
+    let lines = ended.lines in let is = c.lines-count.ensures in
+    (taken.calls, omega (arith, lines, is), taken.kept)
+
 pub returns-in-Some-3-clause-judged : goal.returns-in-Some-3-clause-judged
 returns-in-Some-3-clause-judged g c =
     let left = g.I.Source.remaining c.args.input.now in let left' = g.I.Source.remaining c.next.new.input in
     let taken = c.loop-call.invariant.taken in
     let ended = subst (λ (o : Option TimedCall). IsNone o → HasEnded c.next.new.self left left' taken.calls) c.in_default.is (c.in_ok-call.ensures.ended left taken.calls taken.come) refl in
     let told = subst (λ (o : Option CallVerdict). IfSome o (IsTold c.finish.result)) c.in-Some-3.is c.in_ok-verdict-2.ensures.told in
-    judged_by left left' c.finish.result ((calls : List Call) → IsKept c.loop-call.timeline calls → IsHistory calls → IsLinearizable calls → ⊥)
-    c.finish.ensures.flawed
-    (λ wrong. (
-      ended.text,
-      ended.taken,
-      inr (subst (λ (r : CallReading). IsHistory r.calls → IsLinearizable r.calls → ⊥) (sym ended.is) (wrong taken.calls taken.kept), ended.at_end),
-    ))
+    judged_by left left' c.finish.result (λ verdict. (calls : List Call) → IsKept c.loop-call.timeline calls → IsJudgedAtEnd calls verdict)
+    c.finish.ensures.judged
+    (λ verdict judged. judged_at_end left left' ended.text taken.calls ended.taken ended.at_end ended.is verdict (judged taken.calls taken.kept))
     c.in-Some-3.verdict told
 
 pub returns-clause-judged : goal.returns-clause-judged
@@ -99,7 +127,7 @@ returns-clause-judged g c =
     let ended = subst (λ (o : Option TimedCall). IsNone o → HasEnded c.next.new.self left left' taken.calls) c.in_default.is (c.in_ok-call.ensures.ended left taken.calls taken.come) refl in
     let lines = ended.lines in let is = c.lines-count.ensures in
     let none = subst (λ (o : Option CallVerdict). IsNone o → c.finish.result ≡ Ok None) c.in_default-3.is c.in_ok-verdict-2.ensures.none refl in
-    let linear = subst (λ (r : Result (Option Found) Stop). IfOk r (λ found. IsNone found → (calls : List Call) → IsKept c.loop-call.timeline calls → IsHistory calls × IsLinearizable calls))
+    let linear = subst (λ (r : Result (Option CallVerdict) Stop). IfOk r (λ found. IsNone found → (calls : List Call) → IsKept c.loop-call.timeline calls → IsHistory calls × IsLinearizable calls))
     none c.finish.ensures.linearizable in
     let both = linear refl taken.calls taken.kept in (
       ended.text,

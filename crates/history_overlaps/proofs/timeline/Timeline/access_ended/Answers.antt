@@ -22,8 +22,8 @@ returns-in-Some-Explained-clause-few c = λ none.
 pub returns-in-Some-Unexplained-clause-flawed : goal.returns-in-Some-Unexplained-clause-flawed
 returns-in-Some-Unexplained-clause-flawed c =
     let h = subst (λ (o : Option AccessEnd). IfSome o (λ end. HasEndedIn (lives_of c.args.self.now) (get nat_cmp c.end_in.new.lives) c.args.cell c.args.number (is_explained end))) c.in-Some-Unexplained.is c.in_ok-end_in.ensures.ended in
-    access_unexplained c.args.self.now c.args.number c.args.cell (get nat_cmp c.end_in.new.lives) (is_explained c.in-Some-Unexplained.field-0) h (ap is_explained c.in-Some-Unexplained.field-0-is)
+    access_unexplained c.args.self.now c.args.number c.args.cell (get nat_cmp c.end_in.new.lives) (is_explained c.in-Some-Unexplained.field-0) h (ap is_explained c.in-Some-Unexplained.field-0-is) c.in-Some-Unexplained.answer
 
-pub returns-in-None-clause-flawed : goal.returns-in-None-clause-flawed
-returns-in-None-clause-flawed c = access_gone c.args.self.now c.args.number c.args.cell
+pub unreachable-requires : goal.unreachable-requires
+unreachable-requires c = access_gone c.args.self.now c.args.number c.args.cell c.requires
     (subst (λ (o : Option AccessEnd). IsNone o → IsGone (lives_of c.args.self.now) c.args.cell c.args.number) c.in-None.is c.in_ok-end_in.ensures.none refl)

@@ -6,7 +6,7 @@ use Rattle.history_overlaps.specs.Timelines.{FewOpen}
 use Rattle.history_overlaps.specs.declared.flaws.Flaw.{Flaw}
 use Rattle.history_overlaps.specs.declared.pending.Pending.{Pending}
 use Rattle.history_overlaps.specs.declared.timeline.Timeline.{Timeline}
-use Rattle.history_overlaps.proofs.EndSteps.{ended_one, flawed_one}
+use Rattle.history_overlaps.proofs.EndSteps.{ended_one, flawed_one, is_ending}
 use Rattle.history_overlaps.proofs.timeline.Timeline.end_before.Goals as goal
 
 -- a timeline of which other calls wait
@@ -18,7 +18,6 @@ with_waiting t waiting = record {
   cells = t.cells;
   serials = t.serials;
   freed = t.freed;
-  freed_twice = t.freed_twice;
   alloc = t.alloc;
 }
 
@@ -33,9 +32,15 @@ loop-number-preserved c =
           c.in-Some.ensures.some (λ calls waits stands. stands) c.in-Ok-None.ensures.waiting (ended refl) (few refl);
     }
 
+pub ended-requires : goal.ended-requires
+ended-requires c =
+    let stands = c.requires.stands in
+    is_ending c.loop-number.self (with_waiting c.loop-number.self c.first_before.new.waiting) c.args.moment c.in-Some.number c.in-Some.pending stands.0
+    (c.loop-number.invariant.ended.stands stands.0 stands.1) c.in-Some.ensures.some (λ calls waits stands. stands)
+
 pub returns-in-Ok-Some-clause-flawed : goal.returns-in-Ok-Some-clause-flawed
 returns-in-Ok-Some-clause-flawed c =
     let taken = with_waiting c.loop-number.self c.first_before.new.waiting in
-    let flawed = subst (λ (o : Option Flaw). IfSome o (λ _. IsFlawed taken c.in-Some.number c.in-Some.pending)) c.in-Ok-Some.field-0-is c.in-Ok-Some.ensures.flawed in
-    flawed_one c.args.self.now c.loop-number.self taken c.args.moment c.in-Some.number c.in-Some.pending c.loop-number.invariant.ended
+    let flawed = subst (λ (o : Option Flaw). IfSome o (IsFlawed taken c.in-Some.number c.in-Some.pending)) c.in-Ok-Some.field-0-is c.in-Ok-Some.ensures.flawed in
+    flawed_one c.args.self.now c.loop-number.self taken c.args.moment c.in-Some.number c.in-Some.pending c.in-Ok-Some.flaw c.loop-number.invariant.ended
     c.in-Some.ensures.some (λ calls waits stands. stands) flawed

@@ -1,19 +1,23 @@
-use Rattle.std.proofs.Common.{List}
+use Rattle.std.proofs.Common.{ℕ, ◌^◌, Option, arith, refl, subst, sym}
 use Rattle.std.specs.Prelude.{IfSome, IsNone}
-use Rattle.std.proofs.lemmas.Result.{IfOk-weaker}
-use Rattle.model_intervals.specs.Intervals.{Call, IsLinearizable}
-use Rattle.model_intervals.specs.OverlappingCalls.{IsHistory}
-use Rattle.history_overlaps.specs.Checks.{IsKept}
-use Rattle.history_overlaps.proofs.CheckSteps.{kept_finished, kept_flawed}
-use Rattle.history_overlaps.proofs.EndSteps.{if_some_weaker}
+use Rattle.history_overlaps.specs.Ends.{AreEnded, IsRuledOut, NoneBefore}
+use Rattle.history_overlaps.specs.Standing.{waits_of}
+use Rattle.history_overlaps.specs.declared.stops.Found.{Found}
+use Rattle.history_overlaps.proofs.CheckSteps.{flaw_below, kept_finished, kept_flawed}
 use Rattle.history_overlaps.proofs.timeline.Timeline.finish.Goals as goal
 
-pub returns-clause-linearizable : goal.returns-clause-linearizable
-returns-clause-linearizable c = IfOk-weaker c.end_before.result _ (λ found. IsNone found → (calls : List Call) → IsKept c.args.self.now calls → IsHistory calls × IsLinearizable calls)
-    (λ found ended none calls kept. let e = ended none in kept_finished c.args.self.now calls kept c.end_before.new.self e.0 e.1) c.end_before.ensures.ended
+pub end_before-requires-clause-stands : goal.end_before-requires-clause-stands
+end_before-requires-clause-stands c = let kept = c.requires.kept in (kept.0, kept.2.stands)
 
-pub returns-clause-flawed : goal.returns-clause-flawed
-returns-clause-flawed c = IfOk-weaker c.end_before.result _
-    (λ found. IfSome found (λ _. (calls : List Call) → IsKept c.args.self.now calls → IsHistory calls → IsLinearizable calls → ⊥))
-    (λ found some. if_some_weaker found _ (λ _. (calls : List Call) → IsKept c.args.self.now calls → IsHistory calls → IsLinearizable calls → ⊥)
-    (λ first out calls kept. kept_flawed c.args.self.now calls kept out) some) c.end_before.ensures.flawed
+pub returns-in_default-clause-linearizable : goal.returns-in_default-clause-linearizable
+returns-in_default-clause-linearizable c = λ none calls kept.
+    let ended = subst (λ (o : Option Found). IsNone o → AreEnded c.args.self.now c.end_before.new.self (2 ^ 64) × NoneBefore (waits_of c.end_before.new.self) (2 ^ 64))
+    c.in_default.is c.in_ok-found.ensures.ended refl in
+    kept_finished c.args.self.now calls kept c.end_before.new.self ended.0 ended.1
+
+module _ (c : goal.After-struct_known-1) where
+  out : IsRuledOut c.args.self.now (2 ^ 64) c.in-Some.found
+  out = subst (λ (o : Option Found). IfSome o (IsRuledOut c.args.self.now (2 ^ 64))) c.in-Some.is c.in_ok-found.ensures.flawed
+
+pub returns-clause-judged : goal.returns-clause-judged
+returns-clause-judged c = λ calls kept. kept_flawed c.args.self.now calls kept c.in-Some.found (out c)

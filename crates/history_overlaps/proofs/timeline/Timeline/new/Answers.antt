@@ -1,4 +1,4 @@
-use Rattle.std.proofs.Common.{◌≡◌, ℕ, inl, [], None, refl}
+use Rattle.std.proofs.Common.{◌≡◌, ℕ, [], None, refl}
 use Rattle.std.specs.Ordering.{nat_cmp}
 use Rattle.std.specs.BTreeMap.{BTreeMap, get}
 use Rattle.history_number_set.specs.Ranges.{Has}
@@ -9,7 +9,7 @@ none_there : {X : Type 0} (m : BTreeMap ℕ X) → m.entries ≡ [] → (k : ℕ
 none_there m empty k = rw empty refl
 
 pub returns-clause-stands : goal.returns-clause-stands
-returns-clause-stands c = inl (nothing_stands (get nat_cmp c.new.result) (get nat_cmp c.new-2.result) (get nat_cmp c.new-3.result)
-    (Has c.new-4.result) (Has c.new-5.result) (Has c.new-7.result)
+returns-clause-stands c = nothing_stands (get nat_cmp c.new.result) (get nat_cmp c.new-2.result) (get nat_cmp c.new-3.result)
+    (Has c.new-4.result) (Has c.new-5.result) (Has c.new-6.result)
     (none_there c.new.result c.new.ensures.empty) (none_there c.new-2.result c.new-2.ensures.empty) (none_there c.new-3.result c.new-3.ensures.empty)
-    c.new-4.ensures c.new-5.ensures c.new-7.ensures)
+    c.new-4.ensures c.new-5.ensures c.new-6.ensures

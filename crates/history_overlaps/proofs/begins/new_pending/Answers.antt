@@ -5,7 +5,7 @@ use Rattle.model_intervals.specs.OverlappingCalls.{HasEffect}
 use Rattle.text_words.specs.RecordedWords.{plain_reply}
 use Rattle.text_words.specs.declared.recorded.RecordedReply.{RecordedReply}
 use Rattle.text_words.specs.declared.recorded.RecordedReply.TheVariants.{Object, Done, Bytes, At, Byte, Refused}
-use Rattle.history_overlaps.proofs.begins.new_begun.Goals as goal
+use Rattle.history_overlaps.proofs.begins.new_pending.Goals as goal
 
 -- a `new` has no other effect
 no_effect : (cell len : ℕ) (reply : RecordedReply) → HasEffect (New cell len 0) (plain_reply reply)
