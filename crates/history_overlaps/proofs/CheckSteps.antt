@@ -140,8 +140,8 @@ read_behind lines calls (line ∷ next ∷ more) =
 
 -- ---- verdicts of texts
 
--- what is read of a text that begins with the lines that were read: the calls so far, the last one, and calls that begin
--- no earlier
+-- what is read of a text that begins with the lines that were read: the calls so far, the last one, and calls that
+-- begin no earlier
 pub record HasReadOn (text : List ℕ) (calls : List Call) (call : Call) (more : List ℕ) : Type 0 where
   pub later : List Call
   pub are : (calls_of (text ++ more)).calls ≡ calls ++ call ∷ later

@@ -46,8 +46,8 @@ abbrev pub HasBegunSo : Timeline → Timeline → ℕ → Entry → Pending → 
 HasBegunSo old new number entry pending = (calls : List Call) (call : Call) (waits' : ℕ → Option Pending) → length calls ≡ number → call.entry ≡ entry
     → Stands calls old → MayBegin calls (waits_of old) call → StartsWaiting calls call (waits_of old) waits' pending → StandsWith (calls ++ call ∷ []) waits' new
 
--- if a call with this number and this entry may begin, the call that is told breaks the rule that is told. Other reasons
--- why a call doesn't begin claim nothing
+-- if a call with this number and this entry may begin, the call that is told breaks the rule that is told. Other
+-- reasons why a call doesn't begin claim nothing
 abbrev pub IsMisusedSo : Timeline → ℕ → Entry → NotBegun → Type 0
 IsMisusedSo old number entry (Misused misused) = (calls : List Call) (call : Call) → length calls ≡ number → call.entry ≡ entry
     → Stands calls old → MayBegin calls (waits_of old) call
