@@ -7,6 +7,7 @@ mod CellParts
 mod CellRuns
 mod CellStates
 mod CellTimes
+mod CompletionTests
 mod ExampleTests
 mod ExplainedTest
 pub mod Filtered

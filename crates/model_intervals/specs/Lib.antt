@@ -1,3 +1,5 @@
+pub mod CompletionLaws
+pub mod Completions
 pub mod ExampleLaws
 pub mod Intervals
 pub mod KeyedOrders

@@ -1,0 +1,44 @@
+-- Examples of completions. The old byte is 0, which a new object contains, and the new byte is 7, which `put_byte`
+-- stores.
+use Rattle.std.specs.Prelude.{◌≡◌, ℕ, true, false, List, [], ◌∷◌}
+use Rattle.model_intervals.specs.Completions.{EndsBefore, EndsBy, HasCompletion, IsFirstWrong}
+use Rattle.model_intervals.specs.ExampleLaws.{first_object, get_byte, put_byte}
+use Rattle.model_intervals.specs.Intervals.{Call}
+
+-- a `get` that ends while a `put` is pending
+abbrev pub get_before_end : ℕ → List Call
+get_before_end byte = first_object ∷ put_byte 0 2 9 ∷ get_byte 1 3 4 byte ∷ []
+
+-- if the `get` returned the new byte, the pending `put` has had its effect
+abbrev pub LoadedBytesAreStored : Type 0
+LoadedBytesAreStored = HasCompletion (get_before_end 7) (EndsBy (get_before_end 7) 2)
+    × ((completion : HasCompletion (get_before_end 7) (EndsBy (get_before_end 7) 2)) → completion.taken 1 ≡ true)
+
+-- if the `get` returned the old byte, the pending `put` may be left out, or may have its effect later
+abbrev pub PendingCallsAreFree : Type 0
+PendingCallsAreFree = ((completion : HasCompletion (get_before_end 0) (EndsBy (get_before_end 0) 2)) × (completion.taken 1 ≡ false))
+    × ((completion : HasCompletion (get_before_end 0) (EndsBy (get_before_end 0) 2)) × (completion.taken 1 ≡ true))
+
+-- two `get`, of which each returns a byte that no call stored. The one that is first in the list ends last
+abbrev pub two_wrong_gets : List Call
+two_wrong_gets = first_object ∷ get_byte 0 2 9 1 ∷ get_byte 1 3 4 1 ∷ []
+
+-- only the one that ends first is the first wrong call
+abbrev pub FirstToEndIsFirstWrong : Type 0
+FirstToEndIsFirstWrong = IsFirstWrong two_wrong_gets 2 × (IsFirstWrong two_wrong_gets 1 → ⊥) × (IsFirstWrong two_wrong_gets 0 → ⊥)
+
+-- two such `get` that end at the same moment
+abbrev pub wrong_at_once : List Call
+wrong_at_once = first_object ∷ get_byte 0 2 4 1 ∷ get_byte 1 3 4 1 ∷ []
+
+-- only the one that is first in the list is the first wrong call
+abbrev pub FirstInListIsFirstWrong : Type 0
+FirstInListIsFirstWrong = IsFirstWrong wrong_at_once 1 × (IsFirstWrong wrong_at_once 2 → ⊥)
+
+-- a stale `get`: it ends before a wrong `get` ends, and the `put` before it has ended
+abbrev pub stale_get : List Call
+stale_get = first_object ∷ put_byte 0 2 3 ∷ get_byte 1 4 5 0 ∷ get_byte 1 6 7 1 ∷ []
+
+-- the stale `get` is the first wrong call
+abbrev pub StaleReadIsFirstWrong : Type 0
+StaleReadIsFirstWrong = IsFirstWrong stale_get 2 × (IsFirstWrong stale_get 3 → ⊥)

@@ -1,0 +1,18 @@
+//! Examples of completions, and of first wrong calls. Each lemma is the contract of a function that does nothing.
+ghost use Rattle.model_intervals.specs.CompletionLaws.{FirstInListIsFirstWrong, FirstToEndIsFirstWrong, LoadedBytesAreStored, PendingCallsAreFree, StaleReadIsFirstWrong};
+
+/// A pending `put` whose byte a `get` has returned is part of each completion. If no call has returned the byte, the
+/// pending `put` may be left out.
+pub fn pending_calls()
+    ensures stored { LoadedBytesAreStored }
+    ensures free { PendingCallsAreFree }
+{}
+
+/// Of two `get` that return a byte that no call stored, the first wrong call is the one that ends first. If both end at
+/// the same moment, it is the one that is first in the list. If a stale `get` ends before a wrong `get`, the stale `get`
+/// is the first wrong call.
+pub fn first_wrong_calls()
+    ensures by_end { FirstToEndIsFirstWrong }
+    ensures by_place { FirstInListIsFirstWrong }
+    ensures stale { StaleReadIsFirstWrong }
+{}
