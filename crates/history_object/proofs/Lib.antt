@@ -30,6 +30,9 @@ pub mod Stepping
 pub mod OneEffect
 pub mod OrdersKept
 pub mod OrderExplains
+pub mod TakenPlaces
+pub mod SomeExplained
+pub mod SomeUnexplained
 pub mod OrderedFirst
 pub mod OrderedEnd
 pub mod Accessed

@@ -31,10 +31,10 @@ ended_or_not (CallEnds k ∷ events) i = elim (eqb_tells k i) [
 ]
 
 -- the calls at these places may stand in this order
-abbrev AreApart : {C : Type 0} → List (Timed C) → ℕ → ℕ → Type 0
+abbrev pub AreApart : {C : Type 0} → List (Timed C) → ℕ → ℕ → Type 0
 AreApart {C} calls m n = (a b : Timed C) → slice_get calls m ≡ Some a → slice_get calls n ≡ Some b → b.end < a.begin → ⊥
 
-apart_at : {C : Type 0} → (calls : List (Timed C)) (m n : ℕ) (a b : Timed C) → slice_get calls m ≡ Some a → slice_get calls n ≡ Some b → (b.end < a.begin → ⊥)
+pub apart_at : {C : Type 0} → (calls : List (Timed C)) (m n : ℕ) (a b : Timed C) → slice_get calls m ≡ Some a → slice_get calls n ≡ Some b → (b.end < a.begin → ⊥)
     → AreApart calls m n
 apart_at {C} calls m n a b at_m at_n apart x y at_x at_y later =
     let first : Some a ≡ Some x = sym at_m ∙ at_x in
