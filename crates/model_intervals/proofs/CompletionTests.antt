@@ -1,5 +1,5 @@
 -- What the laws of completions are proved by: which calls are picked, and when one call ends by another.
-use Rattle.std.proofs.Common.{◌≡◌, ◌⊎◌, inl, inr, ℕ, zero, suc, ◌<◌, ◌≤◌, Bool, true, false, List, [], ◌∷◌, refl, sym, subst, Some}
+use Rattle.std.proofs.Common.{◌≡◌, ◌⊎◌, inl, inr, ℕ, zero, suc, ◌<◌, ◌≤◌, Bool, true, false, List, [], ◌∷◌, refl, subst}
 use Rattle.model_intervals.specs.Completions.{EndsBefore, EndsBy, HasCompletion, picked}
 use Rattle.model_intervals.specs.Intervals.{Call, IsLinearizable}
 use Rattle.model_intervals.specs.OverlappingCalls.{IsAt}

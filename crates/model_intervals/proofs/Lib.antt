@@ -23,6 +23,7 @@ mod MiddleForm
 mod NoOrder
 pub mod OneOrder
 mod Permuted
+pub mod Picked
 mod Picks
 pub mod Places
 mod RunToForm

@@ -1,7 +1,7 @@
 -- Examples of completions. The old byte is 0, which a new object contains, and the new byte is 7, which `put_byte`
 -- stores.
 use Rattle.std.specs.Prelude.{◌≡◌, ℕ, true, false, List, [], ◌∷◌}
-use Rattle.model_intervals.specs.Completions.{EndsBefore, EndsBy, HasCompletion, IsFirstWrong}
+use Rattle.model_intervals.specs.Completions.{EndsBy, HasCompletion, IsFirstWrong}
 use Rattle.model_intervals.specs.ExampleLaws.{first_object, get_byte, put_byte}
 use Rattle.model_intervals.specs.Intervals.{Call}
 

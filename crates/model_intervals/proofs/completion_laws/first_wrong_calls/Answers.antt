@@ -1,4 +1,4 @@
-use Rattle.std.proofs.Common.{ℕ, inl, inr, List, [], ◌∷◌, arith, refl}
+use Rattle.std.proofs.Common.{inl, inr, [], ◌∷◌, arith, refl}
 use Rattle.model_intervals.specs.Completions.{EndsBefore, EndsBy}
 use Rattle.model_intervals.specs.CompletionLaws.{stale_get, two_wrong_gets, wrong_at_once}
 use Rattle.model_intervals.specs.ExampleLaws.{first_object, get_byte, put_byte}
