@@ -87,7 +87,7 @@ placed_at place cell (call ∷ calls) (suc k) placed is = elim (tells (is_access
 
 module _ (address : ℕ) where
   -- the bytes behind the calls of a judge are those behind the accesses
-  same_bytes : (order : List PlacedCall) (state : State)
+  pub same_bytes : (order : List PlacedCall) (state : State)
       → option_map bytes_of (state_behind effect state (map (timed_of address) order)) ≡ bytes_behind address (bytes_of state) (map call_at order)
   same_bytes [] state = refl
   same_bytes (placed ∷ order) state =

@@ -5,6 +5,7 @@ mod BegunSteps
 mod BegunWrong
 mod CallPlaces
 mod CheckSteps
+mod Completed
 mod EndBefore
 mod EndRanges
 mod EndSteps
@@ -33,6 +34,8 @@ mod OneOrder
 mod OpenCalls
 mod OrderTexts
 mod OwnOrder
+mod PickedAccesses
+mod PickedHistory
 mod PlacedCalls
 mod PlacedObjects
 mod Placing
