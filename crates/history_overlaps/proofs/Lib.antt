@@ -7,12 +7,14 @@ mod CallPlaces
 mod CheckSteps
 mod Completed
 mod EndBefore
+mod EndOrders
 mod EndRanges
 mod EndSteps
 mod Fair
 mod Finish
 mod FirstAccess
 mod FirstToEnd
+mod FirstWrong
 mod Follows
 mod Grouping
 mod InOrder

@@ -1,5 +1,5 @@
 -- The places of picked calls, before and after.
-use Rattle.std.proofs.Common.{◌≡◌, ◌≢◌, ℕ, zero, suc, inl, inr, Bool, true, if◌then◌else◌, List, [], ◌∷◌, refl, sym, ◌∙◌, ap}
+use Rattle.std.proofs.Common.{◌≡◌, ◌≢◌, ℕ, zero, suc, inl, inr, Bool, true, if◌then◌else◌, List, [], ◌∷◌, arith, refl, sym, ◌∙◌, ap}
 use Rattle.model_intervals.specs.Completions.{picked}
 use Rattle.model_intervals.specs.Intervals.{Call}
 use Rattle.model_intervals.specs.OverlappingCalls.{IsAt}
@@ -47,3 +47,18 @@ picked_from taken (call ∷ calls) k a is = elim (tells (taken 0)) [
 -- two of them are two calls of the whole list
 pub picked_apart : (taken : ℕ → Bool) (calls : List Call) (k l : ℕ) (a b : Call) → k ≢ l → (p : IsPicked taken calls k a) (q : IsPicked taken calls l b) → p.place ≢ q.place
 picked_apart taken calls k l a b apart p q same = apart (sym p.at ∙ ap (λ i. rank taken i) same ∙ q.at)
+
+pub rank_once : (taken : ℕ → Bool) (i j : ℕ) → taken i ≡ true → taken j ≡ true → rank taken i ≡ rank taken j → i ≡ j
+rank_once taken zero zero on on' same = refl
+rank_once taken zero (suc j) on on' same =
+    let behind : rank taken (suc j) ≡ suc (rank (λ k. taken (suc k)) j) = rw on refl in
+    let none : 0 ≡ suc (rank (λ k. taken (suc k)) j) = same ∙ behind in absurd (omega (arith, none))
+rank_once taken (suc i) zero on on' same =
+    let behind : rank taken (suc i) ≡ suc (rank (λ k. taken (suc k)) i) = rw on' refl in
+    let none : suc (rank (λ k. taken (suc k)) i) ≡ 0 = sym behind ∙ same in absurd (omega (arith, none))
+rank_once taken (suc i) (suc j) on on' same = elim (tells (taken 0)) [
+  | inl first ↦ (
+      let later : suc (rank (λ k. taken (suc k)) i) ≡ suc (rank (λ k. taken (suc k)) j) = rw first at same in
+      ap suc (rank_once (λ k. taken (suc k)) i j on on' (omega (arith, later))))
+  | inr not ↦ (let later : rank (λ k. taken (suc k)) i ≡ rank (λ k. taken (suc k)) j = rw not at same in ap suc (rank_once (λ k. taken (suc k)) i j on on' later))
+]
