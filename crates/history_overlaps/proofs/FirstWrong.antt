@@ -8,6 +8,7 @@ use Rattle.model_intervals.specs.Intervals.{Call}
 use Rattle.model_intervals.specs.Objects.{Object as AnObject, IsExplainedByObject, IsFairNew, IsMadeAt, Meet, object_made}
 use Rattle.model_intervals.specs.OverlappingCalls.{IsAt, IsFree, IsHistory, IsNew, cell_at}
 use Rattle.model_intervals.proofs.ByObject.{explained}
+use Rattle.model_intervals.proofs.LaterCalls.{fewer_ended}
 use Rattle.model_intervals.proofs.Picked.{picked_from, picked_to, rank, rank_once}
 use Rattle.history_object.specs.ObjectBytes.{effect, first_state}
 use Rattle.history_object.specs.Following.{HasSome, IsJudgeOf, IsOpen}
@@ -34,11 +35,6 @@ use Rattle.history_overlaps.proofs.LivesWrong.{all_at, maker_by_new}
 use Rattle.history_overlaps.proofs.PickedAccesses.{explained_picked}
 use Rattle.history_overlaps.proofs.PickedHistory.{ended_before, picked_history}
 use Rattle.history_overlaps.proofs.QueueSteps.{ended_on, it_ended, it_waited, waited_too}
-
--- a completion is one for fewer calls that have ended
-pub fewer_ended : (calls : List Call) (ended ended' : ℕ → Type 0) → ((i : ℕ) → ended' i → ended i) → HasCompletion calls ended → HasCompletion calls ended'
-fewer_ended calls ended ended' among completion =
-    record { taken = completion.taken; all_ended = λ i over. completion.all_ended i (among i over); explained = completion.explained }
 
 module _ (calls : List Call) (waits waits' : ℕ → Option Pending) (key : ℕ) (pending : Pending) (stop : StopsWaiting waits waits' key pending) (queue : Queue calls waits)
     (begun : Begun calls) (order : EndInOrder calls waits) (own : NewsHaveOwnCells calls) where

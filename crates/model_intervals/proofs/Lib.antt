@@ -16,12 +16,14 @@ mod FreedBetween
 pub mod GivenKeys
 mod HistoryTest
 mod Joined
+pub mod LaterCalls
 pub mod Lists
 mod MemoryChanges
 mod Merged
 mod MiddleForm
 mod NoOrder
 pub mod OneOrder
+mod OnePicked
 mod Permuted
 pub mod Picked
 mod Picks

@@ -1,9 +1,10 @@
--- Examples of completions. The old byte is 0, which a new object contains, and the new byte is 7, which `put_byte`
+-- Examples of completions, and which later calls don't matter. In the examples the old byte is 0, which a new object contains, and the new byte is 7, which `put_byte`
 -- stores.
-use Rattle.std.specs.Prelude.{◌≡◌, ℕ, true, false, List, [], ◌∷◌}
+use Rattle.std.specs.Prelude.{◌≡◌, ◌↔◌, ℕ, ◌<◌, ◌≤◌, Bool, true, false, List, [], ◌∷◌, ◌++◌}
 use Rattle.model_intervals.specs.Completions.{EndsBy, HasCompletion, IsFirstWrong}
 use Rattle.model_intervals.specs.ExampleLaws.{first_object, get_byte, put_byte}
 use Rattle.model_intervals.specs.Intervals.{Call}
+use Rattle.model_intervals.specs.OverlappingCalls.{IsAt}
 
 -- a `get` that ends while a `put` is pending
 abbrev pub get_before_end : ℕ → List Call
@@ -42,3 +43,20 @@ stale_get = first_object ∷ put_byte 0 2 3 ∷ get_byte 1 4 5 0 ∷ get_byte 1 
 -- the stale `get` is the first wrong call
 abbrev pub StaleReadIsFirstWrong : Type 0
 StaleReadIsFirstWrong = IsFirstWrong stale_get 2 × (IsFirstWrong stale_get 3 → ⊥)
+
+-- ---- later calls
+
+-- each call that has ended is one of `calls`, and each call of `more` begins after its end
+abbrev pub BeginLater : List Call → List Call → (ℕ → Type 0) → Type 0
+BeginLater calls more ended = (i : ℕ) → ended i → (a : Call) × IsAt calls i a × ((j : ℕ) (b : Call) → IsAt more j b → a.end < b.begin)
+
+-- calls that begin after each end don't change whether the calls can be completed
+abbrev pub LaterCallsAreFree : Type 0
+LaterCallsAreFree = (calls more : List Call) (ended : ℕ → Bool) → BeginLater calls more (λ i. ended i ≡ true)
+    → HasCompletion calls (λ i. ended i ≡ true) ↔ HasCompletion (calls ++ more) (λ i. ended i ≡ true)
+
+-- calls that begin after the end of a call, and end no earlier than they begin, don't change whether it is the first
+-- wrong call
+abbrev pub FirstWrongStays : Type 0
+FirstWrongStays = (calls more : List Call) (place : ℕ) (last : Call) → IsAt calls place last
+    → ((j : ℕ) (b : Call) → IsAt more j b → (last.end < b.begin) × (b.begin ≤ b.end)) → IsFirstWrong calls place ↔ IsFirstWrong (calls ++ more) place

@@ -1,5 +1,5 @@
-//! Examples of completions, and of first wrong calls. Each lemma is the contract of a function that does nothing.
-ghost use Rattle.model_intervals.specs.CompletionLaws.{FirstInListIsFirstWrong, FirstToEndIsFirstWrong, LoadedBytesAreStored, PendingCallsAreFree, StaleReadIsFirstWrong};
+//! Examples of completions and of first wrong calls, and why later calls don't matter. Each lemma is the contract of a function that does nothing.
+ghost use Rattle.model_intervals.specs.CompletionLaws.{FirstInListIsFirstWrong, FirstToEndIsFirstWrong, FirstWrongStays, LaterCallsAreFree, LoadedBytesAreStored, PendingCallsAreFree, StaleReadIsFirstWrong};
 
 /// A pending `put` whose byte a `get` has returned is part of each completion. If no call has returned the byte, the
 /// pending `put` may be left out.
@@ -15,4 +15,11 @@ pub fn first_wrong_calls()
     ensures by_end { FirstToEndIsFirstWrong }
     ensures by_place { FirstInListIsFirstWrong }
     ensures stale { StaleReadIsFirstWrong }
+{}
+
+/// Calls that begin after the end of each call that has ended change neither whether the calls can be completed, nor
+/// which call is the first wrong one.
+pub fn later_calls()
+    ensures completed { LaterCallsAreFree }
+    ensures first_wrong { FirstWrongStays }
 {}
