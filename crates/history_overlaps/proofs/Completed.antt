@@ -1,6 +1,6 @@
 -- As long as no flaw is found, the calls can be completed: some order explains the calls that have ended, with those
 -- waiting calls that have had their effect.
-use Rattle.std.proofs.Common.{◌≡◌, ◌≢◌, ℕ, ◌+◌, ◌⊎◌, inl, inr, Bool, true, false, ◌&&◌, ◌||◌, List, [], map, replicate, arith, refl, sym, subst, ◌∙◌, ap, Option, Some, None, slice_get, option_map}
+use Rattle.std.proofs.Common.{◌≡◌, ℕ, ◌+◌, ◌⊎◌, inl, inr, Bool, true, false, ◌&&◌, ◌||◌, List, [], map, arith, refl, sym, subst, ◌∙◌, ap, Option, Some, None, slice_get, option_map}
 use Rattle.std.specs.List.Sorted.{IsPermutation}
 use Rattle.std.proofs.lemmas.List.Sorted.{IsPermutation-refl}
 use Rattle.std.proofs.lemmas.Option.{slice_get-map}
@@ -9,7 +9,7 @@ use Rattle.model_words.specs.declared.commands.Command.TheVariants.{New, Put, Ge
 use Rattle.model_words.specs.declared.commands.Reply.{Reply}
 use Rattle.model_intervals.specs.Completions.{HasCompletion, picked}
 use Rattle.model_intervals.specs.Intervals.{Call}
-use Rattle.model_intervals.specs.Objects.{Object as AnObject, ExplainsAccesses, IsExplainedByObject, IsFairNew, IsFreedBy, IsMadeAt, accesses_of, is_access}
+use Rattle.model_intervals.specs.Objects.{Object as AnObject, IsExplainedByObject, IsFairNew, IsFreedBy, IsMadeAt, is_access}
 use Rattle.model_intervals.specs.OverlappingCalls.{IsAt, IsFree, IsHistory, IsNew, cell_at}
 use Rattle.model_intervals.proofs.OneOrder.{linearizable}
 use Rattle.model_intervals.proofs.Picked.{IsPicked, picked_apart, picked_from, picked_to, rank}
@@ -19,15 +19,14 @@ use Rattle.history_object.specs.Following.{IsOpen}
 use Rattle.history_object.specs.TimedCalls.{ExplainsTimed, Timed}
 use Rattle.history_object.specs.TimedLaws.{those_taken}
 use Rattle.history_object.proofs.SomeExplained.{some_explained}
-use Rattle.history_overlaps.specs.Accesses.{PlacedCall, is_access_of, placed_from, timed_accesses, timed_of}
-use Rattle.history_overlaps.specs.Judges.{AccessJudge, IsExplained, IsFollowed, IsJudged, Judges, live_of}
+use Rattle.history_overlaps.specs.Accesses.{is_access_of, placed_from, timed_accesses, timed_of}
+use Rattle.history_overlaps.specs.Judges.{AccessJudge, IsExplained, IsJudged, Judges, live_of}
 use Rattle.history_overlaps.specs.Lives.{IsFreed, Lives}
 use Rattle.history_overlaps.specs.Queues.{Begun, HasEnded, IsWaiting, Queue, key_of, object_of}
 use Rattle.history_overlaps.specs.Timelines.{Holds}
 use Rattle.history_overlaps.specs.declared.life.Life.{Life}
 use Rattle.history_overlaps.specs.declared.objects.NewObject.{NewObject}
 use Rattle.history_overlaps.specs.declared.pending.Pending.{Pending}
-use Rattle.history_overlaps.specs.declared.pending.Pending.TheVariants.{Access}
 use Rattle.history_overlaps.proofs.BegunSteps.{all_places}
 use Rattle.history_overlaps.proofs.Finish.{life_of}
 use Rattle.history_overlaps.proofs.Follows.{access_timed}

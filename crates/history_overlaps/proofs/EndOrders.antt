@@ -1,6 +1,5 @@
 -- Calls begin and end: the order of ends.
-use Rattle.std.proofs.Common.{◌≡◌, ◌≢◌, ℕ, ◌+◌, ◌*◌, ◌<◌, ◌≤◌, ◌⊎◌, inl, inr, suc, List, [], ◌∷◌, ◌++◌, length, arith, refl, sym, subst, ◌∙◌, Option, Some, None, slice_get}
-use Rattle.std.proofs.lemmas.Bool.Decides.{eqb_tells}
+use Rattle.std.proofs.Common.{◌≡◌, ◌≢◌, ℕ, ◌+◌, ◌<◌, ◌≤◌, ◌⊎◌, inl, inr, List, [], ◌∷◌, ◌++◌, arith, refl, sym, subst, Option, Some, None}
 use Rattle.model_intervals.specs.Completions.{EndsBefore, EndsBy}
 use Rattle.model_intervals.specs.Intervals.{Call}
 use Rattle.model_intervals.specs.OverlappingCalls.{IsAt}

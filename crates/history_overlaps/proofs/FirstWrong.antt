@@ -1,12 +1,12 @@
 -- Where the judge of an object has no configuration left at the end of an access, the access is the first wrong call.
 -- The same holds of a `new` whose answer isn't fair, whose serial was given before, or whose range meets that of a live
 -- object.
-use Rattle.std.proofs.Common.{◌≡◌, ◌≢◌, ◌↔◌, ℕ, ◌+◌, ◌<◌, inl, inr, Bool, true, false, List, arith, refl, sym, subst, ◌∙◌, ap, Option, Some, None, option_map, slice_get, IsTrue}
+use Rattle.std.proofs.Common.{◌≡◌, ◌≢◌, ℕ, inl, inr, Bool, true, false, List, arith, refl, sym, subst, ◌∙◌, ap, Option, Some, None, option_map}
 use Rattle.std.proofs.lemmas.Bool.Decides.{eqb_tells}
 use Rattle.model_intervals.specs.Completions.{EndsBefore, EndsBy, HasCompletion, IsFirstWrong, picked}
 use Rattle.model_intervals.specs.Intervals.{Call}
 use Rattle.model_intervals.specs.Objects.{Object as AnObject, IsExplainedByObject, IsFairNew, IsMadeAt, Meet, object_made}
-use Rattle.model_intervals.specs.OverlappingCalls.{IsAt, IsFree, IsHistory, IsNew, cell_at}
+use Rattle.model_intervals.specs.OverlappingCalls.{IsAt, IsFree, cell_at}
 use Rattle.model_intervals.proofs.ByObject.{explained}
 use Rattle.model_intervals.proofs.LaterCalls.{fewer_ended}
 use Rattle.model_intervals.proofs.Picked.{picked_from, picked_to, rank, rank_once}
