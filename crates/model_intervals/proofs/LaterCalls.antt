@@ -34,7 +34,7 @@ same_at calls i a b here there = cc (here, there)
 
 -- ---- what is picked
 
-picked_none : (calls : List Call) → picked (λ i. false) calls ≡ []
+pub picked_none : (calls : List Call) → picked (λ i. false) calls ≡ []
 picked_none [] = refl
 picked_none (call ∷ calls) = picked_none calls
 

@@ -1,5 +1,6 @@
 mod AccessKeys
 mod AfterStep
+mod AllEnded
 pub mod ByObject
 mod CellKeys
 mod CellOrders
@@ -29,6 +30,7 @@ pub mod Picked
 mod Picks
 pub mod Places
 mod RunToForm
+mod SomeWrong
 mod SortedCalls
 mod StepFacts
 mod Steps

@@ -1,9 +1,9 @@
 -- Examples of completions, and which later calls don't matter. In the examples the old byte is 0, which a new object contains, and the new byte is 7, which `put_byte`
 -- stores.
-use Rattle.std.specs.Prelude.{◌≡◌, ◌↔◌, ℕ, ◌<◌, ◌≤◌, Bool, true, false, List, [], ◌∷◌, ◌++◌}
+use Rattle.std.specs.Prelude.{◌≡◌, ◌↔◌, ℕ, ◌<◌, ◌≤◌, Bool, true, false, List, [], ◌∷◌, ◌++◌, length}
 use Rattle.model_intervals.specs.Completions.{EndsBy, HasCompletion, IsFirstWrong}
 use Rattle.model_intervals.specs.ExampleLaws.{first_object, get_byte, put_byte}
-use Rattle.model_intervals.specs.Intervals.{Call}
+use Rattle.model_intervals.specs.Intervals.{Call, IsLinearizable}
 use Rattle.model_intervals.specs.OverlappingCalls.{IsAt}
 
 -- a `get` that ends while a `put` is pending
@@ -43,6 +43,20 @@ stale_get = first_object ∷ put_byte 0 2 3 ∷ get_byte 1 4 5 0 ∷ get_byte 1 
 -- the stale `get` is the first wrong call
 abbrev pub StaleReadIsFirstWrong : Type 0
 StaleReadIsFirstWrong = IsFirstWrong stale_get 2 × (IsFirstWrong stale_get 3 → ⊥)
+
+-- ---- all completions
+
+-- if all calls have ended, they can be completed if and only if some order explains them
+abbrev pub AllEndedAreLinearizable : Type 0
+AllEndedAreLinearizable = (calls : List Call) → HasCompletion calls (λ i. i < length calls) ↔ IsLinearizable calls
+
+-- at most one call is the first wrong one
+abbrev pub OneIsFirstWrong : Type 0
+OneIsFirstWrong = (calls : List Call) (p q : ℕ) (a b : Call) → IsAt calls p a → IsAt calls q b → IsFirstWrong calls p → IsFirstWrong calls q → p ≡ q
+
+-- no order explains the calls if and only if some call is the first wrong one: it can't be that none is
+abbrev pub UnexplainedHaveFirstWrong : Type 0
+UnexplainedHaveFirstWrong = (calls : List Call) → (IsLinearizable calls → ⊥) ↔ (((place : ℕ) → IsFirstWrong calls place → ⊥) → ⊥)
 
 -- ---- later calls
 

@@ -1,5 +1,6 @@
-//! Examples of completions and of first wrong calls, and why later calls don't matter. Each lemma is the contract of a function that does nothing.
-ghost use Rattle.model_intervals.specs.CompletionLaws.{FirstInListIsFirstWrong, FirstToEndIsFirstWrong, FirstWrongStays, LaterCallsAreFree, LoadedBytesAreStored, PendingCallsAreFree, StaleReadIsFirstWrong};
+//! Lemmas about completions and first wrong calls, and examples of both. Each lemma is the contract of a function that
+//! does nothing.
+ghost use Rattle.model_intervals.specs.CompletionLaws.{AllEndedAreLinearizable, FirstInListIsFirstWrong, FirstToEndIsFirstWrong, FirstWrongStays, LaterCallsAreFree, LoadedBytesAreStored, OneIsFirstWrong, PendingCallsAreFree, StaleReadIsFirstWrong, UnexplainedHaveFirstWrong};
 
 /// A pending `put` whose byte a `get` has returned is part of each completion. If no call has returned the byte, the
 /// pending `put` may be left out.
@@ -15,6 +16,14 @@ pub fn first_wrong_calls()
     ensures by_end { FirstToEndIsFirstWrong }
     ensures by_place { FirstInListIsFirstWrong }
     ensures stale { StaleReadIsFirstWrong }
+{}
+
+/// If all calls have ended, they can be completed if and only if some order explains them. No order explains calls if
+/// and only if some call is the first wrong one. At most one call is.
+pub fn completions()
+    ensures all_ended { AllEndedAreLinearizable }
+    ensures one { OneIsFirstWrong }
+    ensures some { UnexplainedHaveFirstWrong }
 {}
 
 /// Calls that begin after the end of each call that has ended change neither whether the calls can be completed, nor

@@ -1,0 +1,12 @@
+use Rattle.model_intervals.proofs.AllEnded.{all_ended_are_linearizable, one_is_first_wrong}
+use Rattle.model_intervals.proofs.SomeWrong.{unexplained_have_first_wrong}
+use Rattle.model_intervals.proofs.completion_laws.completions.Goals as goal
+
+pub returns-clause-all_ended : goal.returns-clause-all_ended
+returns-clause-all_ended c = all_ended_are_linearizable
+
+pub returns-clause-one : goal.returns-clause-one
+returns-clause-one c = one_is_first_wrong
+
+pub returns-clause-some : goal.returns-clause-some
+returns-clause-some c = unexplained_have_first_wrong
