@@ -17,9 +17,9 @@ use Rattle.history_overlaps.specs.declared.possible.Possible.TheVariants.{Only, 
 
 -- the text of the rule of use that a call breaks
 abbrev pub misuse_text : Misuse → List ℕ
-misuse_text CellAgain = codes "cell again"
-misuse_text NotAfterNew = codes "not after its new"
-misuse_text NotBeforeFree = codes "not before its free"
+misuse_text CellAgain = codes "no history: cell again"
+misuse_text NotAfterNew = codes "no history: not after its new"
+misuse_text NotBeforeFree = codes "no history: not before its free"
 
 -- the text of an answer that no order explains
 abbrev pub answer_text : RecordedReply → List ℕ

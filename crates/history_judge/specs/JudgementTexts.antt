@@ -18,7 +18,7 @@ undecided_text most fault = codes "more than" ++ number_field most ++ codes " co
 -- the text of a verdict on overlapping calls
 abbrev pub call_text : ℕ → CallVerdict → List ℕ
 call_text most (Linearizable entries) = codes "linearizable" ++ number_field entries ++ codes " entries"
-call_text most (Misused line misuse) = codes "line" ++ number_field line ++ codes ": no history: " ++ misuse_text misuse
+call_text most (Misused line misuse) = codes "line" ++ number_field line ++ codes ": " ++ misuse_text misuse
 call_text most (Flawed line flaw) = codes "line" ++ number_field line ++ codes ": " ++ flaw_text flaw
 call_text most (Undecided line fault) = codes "undecided at line" ++ number_field line ++ codes ": " ++ undecided_text most fault
 

@@ -15,9 +15,9 @@ pub(crate) fn add_misuse(text: &mut Vec<u8>, misuse: Misuse) -> Result<(), Alloc
     ensures { OnOk result (text.new.items ≡ text.old.items ++ misuse_text misuse) }
 {
     match misuse {
-        Misuse::CellAgain => text.extend_from_slice(b"cell again"),
-        Misuse::NotAfterNew => text.extend_from_slice(b"not after its new"),
-        Misuse::NotBeforeFree => text.extend_from_slice(b"not before its free"),
+        Misuse::CellAgain => text.extend_from_slice(b"no history: cell again"),
+        Misuse::NotAfterNew => text.extend_from_slice(b"no history: not after its new"),
+        Misuse::NotBeforeFree => text.extend_from_slice(b"no history: not before its free"),
     }
 }
 
@@ -52,7 +52,14 @@ fn add_unexplained(text: &mut Vec<u8>, unexplained: &Unexplained) -> Result<(), 
         ++ (answer_text unexplained.now.answer ++ possible_text unexplained.now.possible)) }
 {
     add_answer(text, &unexplained.answer)?;
-    match &unexplained.possible {
+    add_possible(text, &unexplained.possible)
+}
+
+/// Appends the answers that were possible in place of one that no order of effects explains.
+fn add_possible(text: &mut Vec<u8>, possible: &Possible) -> Result<(), AllocError>
+    ensures { OnOk result (text.new.items ≡ text.old.items ++ possible_text possible.now) }
+{
+    match possible {
         Possible::Only(answer) => {
             text.extend_from_slice(b"; possible: ")?;
             add_recorded(text, answer)

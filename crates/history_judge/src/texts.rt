@@ -43,7 +43,7 @@ fn add_verdict(text: &mut Vec<u8>, verdict: &CallVerdict, most: u32) -> Result<(
         CallVerdict::Misused(line, misuse) => {
             text.extend_from_slice(b"line ")?;
             add_decimal(text, u64::from(*line))?;
-            text.extend_from_slice(b": no history: ")?;
+            text.extend_from_slice(b": ")?;
             add_misuse(text, *misuse)
         }
         CallVerdict::Flawed(line, flaw) => {

@@ -39,7 +39,7 @@ object_is_made command reply x is = absurd (cc is)
 pub made_before_front : (calls more : List Call) (c m : ℕ) → IsMadeBefore calls c m → IsMadeBefore (calls ++ more) c m
 made_before_front calls more c m h = record { place = h.place; call = h.call; there = at_front calls more h.place h.call h.there; makes = h.makes; names = h.names; ended = h.ended }
 
-new_or_not : (command : Command) → IsNew command ⊎ (IsNew command → ⊥)
+pub new_or_not : (command : Command) → IsNew command ⊎ (IsNew command → ⊥)
 new_or_not (New cell len word) = inl tt
 new_or_not command = inr (λ is_new. is_new)
 

@@ -191,12 +191,13 @@ judged_before history left left' calls call come (Flawed line flaw) told = (
     number = told.0;
     in_line = told.1;
     history = told.2;
-    flawed = told.3;
+    first_wrong = told.3;
+    flawed = told.4;
     unexplained = inl (λ more. let on = read_on_from history left left' calls call come more in (
       (call ∷ on.later, on.are),
       λ history_of_all linear.
           let all_history = subst IsHistory on.are history_of_all in
-          told.4 (call ∷ on.later) on.from all_history (explained (calls ++ call ∷ on.later) all_history (subst IsLinearizable on.are linear)),
+          told.5 (call ∷ on.later) on.from all_history (explained (calls ++ call ∷ on.later) all_history (subst IsLinearizable on.are linear)),
     ));
   },
 )
@@ -216,8 +217,9 @@ judged_at_end left left' text calls taken at_end is (Flawed line flaw) told =
         number = told.0;
         in_line = told.1;
         history = told.2;
-        flawed = told.3;
-        unexplained = inr ((([], are ∙ sym (append-nil calls)), λ history linear. told.4 (subst IsLinearizable are linear)), at_end);
+        first_wrong = told.3;
+        flawed = told.4;
+        unexplained = inr ((([], are ∙ sym (append-nil calls)), λ history linear. told.5 (subst IsLinearizable are linear)), at_end);
       },
     )
 
@@ -298,7 +300,7 @@ module _ (old : Timeline) (calls : List Call) (kept : IsKept old calls) where
   -- a flaw is found before a call in order begins
   pub kept_flawed_before : (call : Call) (found : Found) → IsRuledOut old call.begin found
       → IsJudgedBefore calls call (Flawed (found.number + 2) found.flaw)
-  kept_flawed_before call found out = let told = out calls kept.stands in (found.number, refl, kept.stands.history, told.0, told.1)
+  kept_flawed_before call found out = let told = out calls kept.stands in (found.number, refl, kept.stands.history, told.0, told.1, told.2)
 
   -- a flaw is found at the end
   pub kept_flawed : (found : Found) → IsRuledOut old (2 ^ 64) found → IsJudgedAtEnd calls (Flawed (found.number + 2) found.flaw)
@@ -308,7 +310,8 @@ module _ (old : Timeline) (calls : List Call) (kept : IsKept old calls) where
         refl,
         history,
         told.0,
-        λ linear. told.1 [] (λ i a is. absurd (nowhere i a is)) (subst IsHistory (sym (append-nil calls)) history)
+        told.1,
+        λ linear. told.2 [] (λ i a is. absurd (nowhere i a is)) (subst IsHistory (sym (append-nil calls)) history)
             (subst IsExplainedByObject (sym (append-nil calls)) (explained calls history linear)),
       )
     where

@@ -22,17 +22,17 @@ use Rattle.history_object.proofs.SomeExplained.{some_explained}
 use Rattle.history_overlaps.specs.Accesses.{is_access_of, placed_from, timed_accesses, timed_of}
 use Rattle.history_overlaps.specs.Judges.{AccessJudge, IsExplained, IsJudged, Judges, live_of}
 use Rattle.history_overlaps.specs.Lives.{IsFreed, Lives}
-use Rattle.history_overlaps.specs.Queues.{Begun, HasEnded, IsWaiting, Queue, key_of, object_of}
+use Rattle.history_overlaps.specs.Queues.{HasEnded, IsWaiting, Queue, key_of, object_of}
 use Rattle.history_overlaps.specs.Timelines.{Holds}
 use Rattle.history_overlaps.specs.declared.life.Life.{Life}
 use Rattle.history_overlaps.specs.declared.objects.NewObject.{NewObject}
 use Rattle.history_overlaps.specs.declared.pending.Pending.{Pending}
-use Rattle.history_overlaps.proofs.BegunSteps.{all_places}
+use Rattle.history_overlaps.proofs.BegunSteps.{all_places, new_or_not}
 use Rattle.history_overlaps.proofs.Finish.{life_of}
 use Rattle.history_overlaps.proofs.Follows.{access_timed}
 use Rattle.history_overlaps.proofs.LivesEnd.{made_by_new}
 use Rattle.history_overlaps.proofs.PickedAccesses.{all_accesses, picked_explained}
-use Rattle.history_overlaps.proofs.PickedHistory.{new_or_not, picked_history}
+use Rattle.history_overlaps.proofs.PickedHistory.{picked_history}
 use Rattle.history_overlaps.proofs.QueueSteps.{ended_is}
 use Rattle.history_overlaps.proofs.StateAccess.{accesses_cell, waits_as_access}
 
@@ -98,8 +98,8 @@ access_has (Get cell off len) chosen access = refl
 access_has (Addr cell) chosen access = refl
 access_has command chosen access = cc access
 
-module _ (calls : List Call) (waits : ℕ → Option Pending) (lives : ℕ → Option Life) (cells serials : ℕ → Type 0) (queue : Queue calls waits) (begun : Begun calls)
-    (living : Lives calls (HasEnded calls waits) (live_of lives) cells serials) (judges : Judges calls waits lives) where
+module _ (calls : List Call) (waits : ℕ → Option Pending) (lives : ℕ → Option Life) (serials : ℕ → Type 0) (queue : Queue calls waits) (history : IsHistory calls)
+    (living : Lives calls (HasEnded calls waits) (live_of lives) serials) (judges : Judges calls waits lives) where
   -- the same for the cell of a live object
   record CellChoice (cell : ℕ) : Type 0 where
     pub takes : ℕ → Bool
@@ -172,8 +172,7 @@ module _ (calls : List Call) (waits : ℕ → Option Pending) (lives : ℕ → O
   -- ---- the picked calls
 
   taken_history : IsHistory (picked taken calls)
-  taken_history = picked_history calls waits queue begun taken all_ended
-      (λ i j a b apart at_i at_j on_i on_j new_a new_b. living.own_cells i j a b apart (new_ended i a at_i on_i new_a) (new_ended j b at_j on_j new_b) at_i at_j new_a new_b)
+  taken_history = picked_history calls waits queue history taken all_ended
 
   -- what is picked and made an object has ended
   made_over : (k : ℕ) (a : Call) (x : AnObject) → IsMadeAt (picked taken calls) k a x → (p : IsPicked taken calls k a) × IsMadeAt calls p.place a x × HasEnded calls waits p.place
@@ -254,6 +253,6 @@ module _ (calls : List Call) (waits : ℕ → Option Pending) (lives : ℕ → O
   pub some_completed : HasCompletion calls (HasEnded calls waits)
   some_completed = record { taken = taken; all_ended = all_ended; explained = linearizable (picked taken calls) taken_history taken_explained }
 
-pub completed : (calls : List Call) (waits : ℕ → Option Pending) (lives : ℕ → Option Life) (starts : ℕ → Option ℕ) (cells serials twice : ℕ → Type 0)
-    → Holds calls waits lives starts cells serials twice → HasCompletion calls (HasEnded calls waits)
-completed calls waits lives starts cells serials twice h = some_completed calls waits lives cells serials h.queue h.begun h.living h.judges
+pub completed : (calls : List Call) (waits : ℕ → Option Pending) (lives : ℕ → Option Life) (starts : ℕ → Option ℕ) (cells serials freed : ℕ → Type 0)
+    → Holds calls waits lives starts cells serials freed → HasCompletion calls (HasEnded calls waits)
+completed calls waits lives starts cells serials freed h = some_completed calls waits lives serials h.queue h.history h.living h.judges

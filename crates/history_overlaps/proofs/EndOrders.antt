@@ -1,19 +1,15 @@
--- Calls begin and end: the order of ends.
+-- A call ends: the order of ends.
 use Rattle.std.proofs.Common.{◌≡◌, ◌≢◌, ℕ, ◌+◌, ◌<◌, ◌≤◌, ◌⊎◌, inl, inr, List, [], ◌∷◌, ◌++◌, arith, refl, sym, subst, Option, Some, None}
 use Rattle.model_intervals.specs.Completions.{EndsBefore, EndsBy}
 use Rattle.model_intervals.specs.Intervals.{Call}
 use Rattle.model_intervals.specs.OverlappingCalls.{IsAt}
-use Rattle.history_overlaps.specs.EndOrders.{EndInOrder}
 use Rattle.history_overlaps.specs.Queues.{HasEnded, IsWaiting, MayBegin, Queue, WaitsAt, key_of}
 use Rattle.history_overlaps.specs.Timelines.{StartsWaiting, StopsWaiting}
 use Rattle.history_overlaps.specs.declared.pending.Pending.{Pending}
 use Rattle.history_overlaps.proofs.CallPlaces.{at_front, at_one, at_same}
-use Rattle.history_overlaps.proofs.QueueSteps.{ended_before, ended_or_this, ending, small_place, waited_before, waited_too}
+use Rattle.history_overlaps.proofs.QueueSteps.{ended_or_this, ending, less_or_same, small_place, waited_too}
 
 -- ---- keys
-
-less_or_same : (m n : ℕ) → m ≤ n → (m < n) ⊎ (m ≡ n)
-less_or_same m n le = grind arith
 
 -- the order of keys is the order of ends
 by_key : (a b : Call) (i j : ℕ) → i < 4294967296 → j < 4294967296 → key_of a i ≤ key_of b j → (a.end < b.end) ⊎ ((a.end ≡ b.end) × (i ≤ j))
@@ -40,19 +36,6 @@ key_before a b i j small order = elim order [
   | inr same ↦ (let e = same.0 in let lt = same.1 in omega (arith, e, lt))
 ]
 
--- ---- a call begins
-
-pub order_begins : (calls : List Call) (call : Call) (waits waits' : ℕ → Option Pending) (pending : Pending) → Queue calls waits → MayBegin calls waits call
-    → StartsWaiting calls call waits waits' pending → EndInOrder calls waits → EndInOrder (calls ++ call ∷ []) waits'
-order_begins calls call waits waits' pending queue may starting order i j a b over at_i at_j w =
-    let before = ended_before calls call waits waits' pending queue may starting.now starting.others i over in
-    let old_i = subst (λ (d : Call). IsAt calls i d) (at_same (calls ++ call ∷ []) i before.0 a (at_front calls (call ∷ []) i before.0 before.1) at_i) before.1 in
-    elim (at_one calls call j b at_j) [
-      | inl old_j ↦ order i j a b before old_i old_j (waited_before calls call waits waits' pending queue may starting.now starting.others j b old_j w)
-      | inr new_j ↦ subst (λ (d : Call). key_of a i < key_of d j) new_j.1
-          (let early = may.behind i a before old_i in let takes = may.takes_time in let small = small_place calls waits queue i a old_i in omega (arith, early, takes, small))
-    ]
-
 -- ---- the first call in the order of ends ends
 
 module _ (calls : List Call) (waits waits' : ℕ → Option Pending) (key : ℕ) (pending : Pending) (stop : StopsWaiting waits waits' key pending) (queue : Queue calls waits) where
@@ -74,16 +57,6 @@ module _ (calls : List Call) (waits waits' : ℕ → Option Pending) (key : ℕ)
     where
       less : (q : ℕ) → key ≤ q → q ≢ key → key < q
       less q le apart = elim (less_or_same key q le) [ inl early ↦ early | inr same ↦ absurd (apart (sym same)) ]
-
-  pub order_ends : EndInOrder calls waits → EndInOrder calls waits'
-  order_ends order i j a b over at_i at_j w =
-      elim (ended_or_this calls waits waits' key pending queue stop.was stop.gone stop.others i over) [
-        | inl old ↦ order i j a b old at_i at_j (w.0, (waited_too calls waits waits' key pending queue stop.was stop.gone stop.others (key_of b j) w.0 w.1).1)
-        | inr here ↦
-            let one = at_same calls last.place last.call a last.there (subst (λ (n : ℕ). IsAt calls n a) here at_i) in
-            let is = last.is_key in let late = behind (key_of b j) w.0 w.1 in
-            subst (λ (d : Call). key_of d i < key_of b j) one (omega (arith, is, here, late))
-      ]
 
   -- the calls up to it have ended after its end
   pub ended_up_to : (i : ℕ) → EndsBy calls last.place i → HasEnded calls waits' i
@@ -108,15 +81,15 @@ module _ (calls : List Call) (waits waits' : ℕ → Option Pending) (key : ℕ)
           let is = last.is_key in let late = stop.least (key_of a i) p some in omega (arith, up, is, late))
 
   -- and no others have
-  pub up_to_ended : EndInOrder calls waits → (i : ℕ) → HasEnded calls waits' i → EndsBy calls last.place i
-  up_to_ended order i over = elim (ended_or_this calls waits waits' key pending queue stop.was stop.gone stop.others i over) [
+  pub up_to_ended : (i : ℕ) → HasEnded calls waits' i → EndsBy calls last.place i
+  up_to_ended i over = elim (ended_or_this calls waits waits' key pending queue stop.was stop.gone stop.others i over) [
     | inl old ↦ (
       over.0,
       last.call,
       over.1,
       last.there,
       by_key over.0 last.call i last.place (small i over.0 over.1) (small last.place last.call last.there)
-          (let less = order i last.place over.0 last.call old over.1 last.there it_waits in omega (arith, less)),
+          (let less = queue.order i last.place over.0 last.call old over.1 last.there it_waits in omega (arith, less)),
     )
     | inr here ↦ (last.call, last.call, subst (λ (n : ℕ). IsAt calls n last.call) (sym here) last.there, last.there, inr (refl, omega (arith, here)))
   ]

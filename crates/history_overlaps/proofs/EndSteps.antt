@@ -10,6 +10,7 @@ use Rattle.model_words.specs.declared.commands.Command.TheVariants.{New}
 use Rattle.model_words.specs.declared.commands.Reply.{Reply}
 use Rattle.model_words.specs.declared.commands.Reply.TheVariants.{Object as MadeReply, Refused as RefusedReply}
 use Rattle.model_words.specs.declared.refusals.Refusal.{Refusal}
+use Rattle.model_intervals.specs.Completions.{IsFirstWrong}
 use Rattle.model_intervals.specs.Intervals.{Call}
 use Rattle.model_intervals.specs.Objects.{Object as AnObject, IsFairNew, IsMadeAt, object_made}
 use Rattle.model_intervals.specs.OverlappingCalls.{IsAt, IsNew, cell_at, cell_of}
@@ -38,8 +39,9 @@ use Rattle.history_overlaps.specs.declared.stops.Found.{Found}
 use Rattle.history_overlaps.specs.declared.timeline.Timeline.{Timeline}
 use Rattle.history_overlaps.proofs.CallPlaces.{at_same}
 use Rattle.history_overlaps.proofs.Fair.{fair_length}
+use Rattle.history_overlaps.proofs.FirstWrong.{access_is_first_wrong, range_is_first_wrong, serial_is_first_wrong, unfair_is_first_wrong}
 use Rattle.history_overlaps.proofs.Follows.{access_timed}
-use Rattle.history_overlaps.proofs.LifeSteps.{access_end_holds, access_end_wrong, access_is_open, access_unexplained_now, few_ended}
+use Rattle.history_overlaps.proofs.LifeSteps.{access_end_holds, access_end_wrong, access_is_open, few_ended}
 use Rattle.history_overlaps.proofs.LivesEnd.{made_at_cell, made_by_new}
 use Rattle.history_overlaps.proofs.QueueSteps.{small_place}
 use Rattle.history_overlaps.proofs.StateAccess.{access_of_cell}
@@ -68,6 +70,9 @@ module _ (t : Timeline) (pending : Pending) (calls : List Call) (waits : ℕ →
 
     is_there : IsAt calls number one.call
     is_there = subst (λ (n : ℕ). IsAt calls n one.call) its_place one.there
+
+    first_there : IsFirstWrong calls one.place → IsFirstWrong calls number
+    first_there first = subst (λ (n : ℕ). IsFirstWrong calls n) its_place first
 
   its_end : (moment : ℕ) → key < moment * 4294967296 → one.call.end < moment
   its_end moment early = let is = one.is_key in let small = small_place calls waits h.queue one.place one.call one.there in omega (arith, is, early)
@@ -107,6 +112,7 @@ module _ (t : Timeline) (number len : ℕ) (refusal : Refusal) where
 
   pub refused_unfair : (IsOwnRefusal any_allocator len refusal → ⊥) → (flaw : Flaw) → IsRefusalFlaw refusal flaw → IsFlawed t number (Refused len refusal) flaw
   refused_unfair other flaw of_refusal calls waits key moment at stop h early = (
+    first_there t (Refused len refusal) calls waits key stop h number at (unfair_is_first_wrong calls waits (waits_of t) key (Refused len refusal) stop (lives_of t) (starts_of t) (Has t.cells) (Has t.serials) (Has t.freed) h unfair),
     ((refused_call calls waits key stop h).call, is_there t (Refused len refusal) calls waits key stop h number at, told flaw of_refusal),
     unfair_new calls waits (waits_of t) key (Refused len refusal) stop (lives_of t) (starts_of t) (Has t.cells) (Has t.serials) (Has t.freed) h
         (cell_at (refused_call calls waits key stop h).call) refl (refused_is_new calls waits key stop h) moment unfair,
@@ -153,6 +159,8 @@ module _ (t : Timeline) (number : ℕ) (object : NewObject) where
 
   pub made_unfair : ((1 ≤ object.len) × (object.len ≤ any_allocator.longest) → ⊥) → IsFlawed t number (Made object) (NoByte (ToldObject object.serial object.address))
   made_unfair unfair calls waits key moment at stop h early = let f = made_facts calls waits key stop h in (
+    first_there t (Made object) calls waits key stop h number at
+        (unfair_is_first_wrong calls waits (waits_of t) key (Made object) stop (lives_of t) (starts_of t) (Has t.cells) (Has t.serials) (Has t.freed) h (λ fair. unfair (f.2.0 fair))),
     (
       (made_call calls waits key stop h).call,
       is_there t (Made object) calls waits key stop h number at,
@@ -165,6 +173,9 @@ module _ (t : Timeline) (number : ℕ) (object : NewObject) where
   module _ (some : 1 ≤ object.len) (long : object.len ≤ any_allocator.longest) where
     pub made_again : Has t.serials object.serial → IsFlawed t number (Made object) SerialAgain
     made_again has calls waits key moment at stop h early = let f = made_facts calls waits key stop h in let m = h.living.of_serial object.serial has in (
+      first_there t (Made object) calls waits key stop h number at
+          (serial_is_first_wrong calls waits (waits_of t) key (Made object) stop (lives_of t) (starts_of t) (Has t.cells) (Has t.serials) (Has t.freed) h
+          (object_of object) (made_call calls waits key stop h).suits.0 has),
       (
         (made_call calls waits key stop h).call,
         is_there t (Made object) calls waits key stop h number at,
@@ -194,6 +205,9 @@ module _ (t : Timeline) (number : ℕ) (object : NewObject) where
         let l = h.living.live_is over.0 (object_of other) alive in
         let m = subst (λ (o : NewObject). (b : Call) × IsMadeAt calls o.number b (object_of o)) over.3 (h.numbered over.0 over.1 over.2) in
         let at_once = its_number calls waits key stop h other l.2 m in (
+          first_there t (Made object) calls waits key stop h number at
+              (range_is_first_wrong calls waits (waits_of t) key (Made object) stop (lives_of t) (starts_of t) (Has t.cells) (Has t.serials) (Has t.freed) h
+              (object_of object) (made_call calls waits key stop h).suits.0 over.0 (object_of other) alive over.4),
           (
             (made_call calls waits key stop h).call,
             is_there t (Made object) calls waits key stop h number at,
@@ -285,11 +299,13 @@ module _ (t : Timeline) (number cell : ℕ) where
 
     pub access_unexplained : left ≡ false → (unexplained : Unexplained) → IsFlawed t number (Access cell) (NoOrder unexplained)
     access_unexplained none unexplained calls waits key moment at stop h early = (
+      first_there t (Access cell) calls waits key stop h number at
+          (access_is_first_wrong calls waits (waits_of t) key (Access cell) stop (lives_of t) (starts_of t) (Has t.cells) (Has t.serials) (Has t.freed) h
+          cell ended.0 ended.1 left ended.2 (ended_there calls waits key at stop h) none),
       (
         (one t (Access cell) calls waits key stop h).call,
         is_there t (Access cell) calls waits key stop h number at,
-        access_unexplained_now calls waits (waits_of t) key (Access cell) stop (lives_of t) (starts_of t) (Has t.cells) (Has t.serials) (Has t.freed) h cell refl
-            ended.0 ended.2 ended.1 left (ended_there calls waits key at stop h) ended.4 none,
+        (one t (Access cell) calls waits key stop h).suits.0,
       ),
       access_end_wrong calls waits (waits_of t) key (Access cell) stop (lives_of t) (starts_of t) (Has t.cells) (Has t.serials) (Has t.freed) h cell refl
           ended.0 ended.2 ended.1 left (ended_there calls waits key at stop h) ended.4 none moment

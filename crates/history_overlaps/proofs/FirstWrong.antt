@@ -6,7 +6,7 @@ use Rattle.std.proofs.lemmas.Bool.Decides.{eqb_tells}
 use Rattle.model_intervals.specs.Completions.{EndsBefore, EndsBy, HasCompletion, IsFirstWrong, picked}
 use Rattle.model_intervals.specs.Intervals.{Call}
 use Rattle.model_intervals.specs.Objects.{Object as AnObject, IsExplainedByObject, IsFairNew, IsMadeAt, Meet, object_made}
-use Rattle.model_intervals.specs.OverlappingCalls.{IsAt, IsFree, cell_at}
+use Rattle.model_intervals.specs.OverlappingCalls.{IsAt, IsFree, IsHistory, cell_at}
 use Rattle.model_intervals.proofs.ByObject.{explained}
 use Rattle.model_intervals.proofs.LaterCalls.{fewer_ended}
 use Rattle.model_intervals.proofs.Picked.{picked_from, picked_to, rank, rank_once}
@@ -16,11 +16,10 @@ use Rattle.history_object.specs.TimedCalls.{Timed}
 use Rattle.history_object.specs.declared.access.Access.{Access as AnAccess}
 use Rattle.history_object.proofs.SomeUnexplained.{left_if_explained}
 use Rattle.history_overlaps.specs.Accesses.{is_access_of, timed_accesses}
-use Rattle.history_overlaps.specs.EndOrders.{EndInOrder, NewsHaveOwnCells}
 use Rattle.history_overlaps.specs.Judges.{AccessJudge, IsFollowed, IsJudged, live_of}
 use Rattle.history_overlaps.specs.LifeSteps.{HasEndedAt}
 use Rattle.history_overlaps.specs.Lives.{Lives}
-use Rattle.history_overlaps.specs.Queues.{Begun, HasEnded, Queue, WaitsAt, key_of, object_of}
+use Rattle.history_overlaps.specs.Queues.{HasEnded, Queue, WaitsAt, key_of, object_of}
 use Rattle.history_overlaps.specs.Timelines.{Holds, StopsWaiting}
 use Rattle.history_overlaps.specs.declared.life.Life.{Life}
 use Rattle.history_overlaps.specs.declared.objects.NewObject.{NewObject}
@@ -37,7 +36,7 @@ use Rattle.history_overlaps.proofs.PickedHistory.{ended_before, picked_history}
 use Rattle.history_overlaps.proofs.QueueSteps.{ended_on, it_ended, it_waited, waited_too}
 
 module _ (calls : List Call) (waits waits' : ℕ → Option Pending) (key : ℕ) (pending : Pending) (stop : StopsWaiting waits waits' key pending) (queue : Queue calls waits)
-    (begun : Begun calls) (order : EndInOrder calls waits) (own : NewsHaveOwnCells calls) where
+    (history : IsHistory calls) where
   -- the place of the call that ends
   abbrev place : ℕ
   place = (last calls waits waits' key pending stop queue).place
@@ -55,7 +54,7 @@ module _ (calls : List Call) (waits waits' : ℕ → Option Pending) (key : ℕ)
 
   module _ (completion : HasCompletion calls (EndsBy calls place)) where
     on : (i : ℕ) → HasEnded calls waits' i → completion.taken i ≡ true
-    on i over = completion.all_ended i (up_to_ended calls waits waits' key pending stop queue order i over)
+    on i over = completion.all_ended i (up_to_ended calls waits waits' key pending stop queue i over)
 
     on_before : (i : ℕ) → HasEnded calls waits i → completion.taken i ≡ true
     on_before i over = on i (ended_on calls waits waits' key pending queue stop.was stop.gone stop.others i over)
@@ -65,7 +64,7 @@ module _ (calls : List Call) (waits waits' : ℕ → Option Pending) (key : ℕ)
 
     by_object : IsExplainedByObject (picked completion.taken calls)
     by_object = explained (picked completion.taken calls)
-        (picked_history calls waits queue begun completion.taken on_before (λ i j a b apart at_i at_j on_i on_j. own i j a b apart at_i at_j)) completion.explained
+        (picked_history calls waits queue history completion.taken on_before) completion.explained
 
     this_picked : IsAt (picked completion.taken calls) (rank completion.taken place) this
     this_picked = picked_to completion.taken calls place this there this_on
@@ -79,7 +78,7 @@ module _ (calls : List Call) (waits waits' : ℕ → Option Pending) (key : ℕ)
 
   -- ---- the end of an access
 
-  module _ (live : ℕ → Option AnObject) (cells serials : ℕ → Type 0) (living : Lives calls (HasEnded calls waits) live cells serials) where
+  module _ (live : ℕ → Option AnObject) (serials : ℕ → Type 0) (living : Lives calls (HasEnded calls waits) live serials) where
     -- the judge of an object has no configuration left
     pub none_completes : (cell : ℕ) (object : NewObject) (judge : AccessJudge) → live cell ≡ Some (object_of object)
         → IsJudgeOf effect (first_state object.len) (timed_accesses object.cell object.address calls) judge
@@ -114,11 +113,11 @@ module _ (calls : List Call) (waits waits' : ℕ → Option Pending) (key : ℕ)
       -- no call frees the new object
       unfreed : (i : ℕ) (free : Call) → IsAt calls i free → IsFree free.entry.command → cell_at free ≡ y.cell → ⊥
       unfreed i free at frees names =
-          let before = begun.after_new i free at (free_is_no_new free.entry.command frees) in
+          let before = history.after_new i free at (free_is_no_new free.entry.command frees) in
           let over = ended_before calls waits queue i free at before.place before.call before.there before.ended in
           elim (eqb_tells before.place place) [
             | inl same ↦ not_yet (subst (λ (n : ℕ). HasEnded calls waits n) same.1 over)
-            | inr apart ↦ own before.place place before.call this apart.1 before.there there (maker_by_new before.call.entry.command before.call.entry.reply before.makes)
+            | inr apart ↦ history.own_cells before.place place before.call this apart.1 before.there there (maker_by_new before.call.entry.command before.call.entry.reply before.makes)
                 (made_by_new calls place this y (there, makes)) (before.names ∙ names ∙ sym (made_at_cell calls place this y (there, makes)))
           ]
 
@@ -135,8 +134,7 @@ module _ (calls : List Call) (waits waits' : ℕ → Option Pending) (key : ℕ)
 -- ---- what a timeline knows
 
 module _ (calls : List Call) (waits waits' : ℕ → Option Pending) (key : ℕ) (pending : Pending) (stop : StopsWaiting waits waits' key pending)
-    (lives : ℕ → Option Life) (starts : ℕ → Option ℕ) (cells serials twice : ℕ → Type 0) (h : Holds calls waits lives starts cells serials twice)
-    (order : EndInOrder calls waits) (own : NewsHaveOwnCells calls) where
+    (lives : ℕ → Option Life) (starts : ℕ → Option ℕ) (cells serials freed : ℕ → Type 0) (h : Holds calls waits lives starts cells serials freed) where
   -- the call that ends
   abbrev pub ending_call : WaitsAt calls key pending
   ending_call = last calls waits waits' key pending stop h.queue
@@ -145,7 +143,7 @@ module _ (calls : List Call) (waits waits' : ℕ → Option Pending) (key : ℕ)
   wrong_unless : (HasCompletion calls (EndsBy calls ending_call.place) → ⊥) → IsFirstWrong calls ending_call.place
   wrong_unless none = record {
     before = fewer_ended calls (HasEnded calls waits) (EndsBefore calls ending_call.place) (ended_earlier calls waits waits' key pending stop h.queue)
-        (completed calls waits lives starts cells serials twice h);
+        (completed calls waits lives starts cells serials freed h);
     none = none;
   }
 
@@ -170,7 +168,7 @@ module _ (calls : List Call) (waits waits' : ℕ → Option Pending) (key : ℕ)
             closed ((ended.is_open i).1 ((followed.is_open i a is access).1 (p, too.1), apart too.0)))
 
     pub access_is_first_wrong : left ≡ false → IsFirstWrong calls ending_call.place
-    access_is_first_wrong none = wrong_unless (none_completes calls waits waits' key pending stop h.queue h.begun order own (live_of lives) cells serials h.living
+    access_is_first_wrong none = wrong_unless (none_completes calls waits waits' key pending stop h.queue h.history (live_of lives) serials h.living
         cell life.object ended.judge (ap (λ (o : Option Life). option_map (λ l. object_of l.object) o) alive)
         (ended.follows (timed_accesses life.object.cell life.object.address calls) followed.follows)
         (λ some. let yes = ended.some.1 some in cc (yes, none)) closed_ended)
@@ -178,15 +176,15 @@ module _ (calls : List Call) (waits waits' : ℕ → Option Pending) (key : ℕ)
   -- a `new` whose answer isn't fair
   pub unfair_is_first_wrong : (IsFairNew ending_call.call.entry.command ending_call.call.entry.reply → ⊥) → IsFirstWrong calls ending_call.place
   unfair_is_first_wrong unfair =
-      wrong_unless (unfair_completes_none calls waits waits' key pending stop h.queue h.begun order own (live_of lives) cells serials h.living unfair)
+      wrong_unless (unfair_completes_none calls waits waits' key pending stop h.queue h.history (live_of lives) serials h.living unfair)
 
   module _ (y : AnObject) (makes : object_made ending_call.call.entry.command ending_call.call.entry.reply ≡ Some y) where
     -- a `new` whose serial was given before
     pub serial_is_first_wrong : serials y.serial → IsFirstWrong calls ending_call.place
     serial_is_first_wrong has =
-        wrong_unless (serial_completes_none calls waits waits' key pending stop h.queue h.begun order own (live_of lives) cells serials h.living y makes has)
+        wrong_unless (serial_completes_none calls waits waits' key pending stop h.queue h.history (live_of lives) serials h.living y makes has)
 
     -- a `new` whose range meets that of a live object
     pub range_is_first_wrong : (cell : ℕ) (x : AnObject) → live_of lives cell ≡ Some x → Meet x y → IsFirstWrong calls ending_call.place
     range_is_first_wrong cell x alive meet =
-        wrong_unless (range_completes_none calls waits waits' key pending stop h.queue h.begun order own (live_of lives) cells serials h.living y makes cell x alive meet)
+        wrong_unless (range_completes_none calls waits waits' key pending stop h.queue h.history (live_of lives) serials h.living y makes cell x alive meet)

@@ -1,7 +1,6 @@
 -- Accesses to a live object begin and end: its judge follows them.
-use Rattle.std.proofs.Common.{◌≡◌, ◌≢◌, ◌↔◌, ℕ, zero, suc, ◌+◌, option_map, ◌<◌, inl, inr, Bool, true, false, List, [], ◌∷◌, ◌++◌, length, arith, refl, sym, subst, ◌∙◌, ap, Option, Some, None}
+use Rattle.std.proofs.Common.{◌≡◌, ◌≢◌, ◌↔◌, ℕ, ◌+◌, option_map, ◌<◌, inl, inr, Bool, true, false, List, [], ◌∷◌, ◌++◌, length, arith, refl, sym, subst, ◌∙◌, ap, Option, Some, None}
 use Rattle.std.proofs.lemmas.Bool.Decides.{eqb_tells}
-use Rattle.std.proofs.lemmas.List.{append-nil}
 use Rattle.model_intervals.specs.Intervals.{Call}
 use Rattle.model_intervals.specs.Objects.{IsMadeAt, is_access}
 use Rattle.model_intervals.specs.OverlappingCalls.{IsAt, cell_at}
@@ -9,10 +8,9 @@ use Rattle.history_object.specs.ObjectBytes.{effect, first_state}
 use Rattle.history_object.specs.declared.access.Access.{Access as AnAccess}
 use Rattle.history_object.specs.Following.{IsJudgeOf, IsOpen}
 use Rattle.history_overlaps.specs.Accesses.{access_of, is_access_of, timed_accesses}
-use Rattle.history_overlaps.specs.Judges.{AccessJudge, IsExplained, IsFollowed, IsJudged, live_of}
+use Rattle.history_overlaps.specs.Judges.{AccessJudge, IsFollowed, IsJudged, live_of}
 use Rattle.history_overlaps.specs.LifeSteps.{HasBegun, HasEndedAt}
-use Rattle.history_overlaps.specs.Flaws.{IsOfNoOrder}
-use Rattle.history_overlaps.specs.Lives.{BeginFrom, CannotBe, IsMade}
+use Rattle.history_overlaps.specs.Lives.{CannotBe}
 use Rattle.history_overlaps.specs.Queues.{HasEnded, IsWaiting, MayBegin, Queue, Suits, WaitsAt, key_of, object_of}
 use Rattle.history_overlaps.specs.Timelines.{FewOpen, Holds, StartsWaiting, StopsWaiting}
 use Rattle.history_overlaps.specs.declared.life.Life.{Life}
@@ -144,8 +142,11 @@ module _ (calls : List Call) (waits waits' : ℕ → Option Pending) (key : ℕ)
               ended.first ended.judge followed judge_follows (ended.some.0 some) ended.is_open))
 
       -- none is left
-      none_with_more : left ≡ false → (moment : ℕ) → at.call.end < moment → (more : List Call) → BeginFrom moment more → IsExplained (calls ++ more) (object_of life.object) → ⊥
-      none_with_more none moment early more later order =
+      pub access_end_wrong : left ≡ false → (moment : ℕ) → at.call.end < moment → CannotBe calls moment
+      access_end_wrong none moment early more later history explained =
+          let l = h.living.live_is cell (object_of life.object) (ap (λ (o : Option Life). option_map (λ k. object_of k.object) o) alive) in
+          let m = l.2 in
+          let order = explained.each m.place m.call (object_of life.object) (made_front calls more m.place m.call (object_of life.object) m.there) in
           none_explained calls more waits' life.object ended.judge judge_follows
           (λ some. let yes = ended.some.1 some in cc (yes, none))
           over moment past later order.0 order.1
@@ -173,29 +174,6 @@ module _ (calls : List Call) (waits waits' : ℕ → Option Pending) (key : ℕ)
                 let one = at_same calls at.place at.call a at.there (subst (λ (n : ℕ). IsAt calls n a) here is) in
                 subst (λ (b : Call). b.end < moment) one early
           ]
-
-      made : IsMade calls (HasEnded calls waits) (object_of life.object)
-      made = (h.living.live_is cell (object_of life.object) (ap (λ (o : Option Life). option_map (λ k. object_of k.object) o) alive)).2
-
-      pub access_end_wrong : left ≡ false → (moment : ℕ) → at.call.end < moment → CannotBe calls moment
-      access_end_wrong none moment early more later history explained = none_with_more none moment early more later
-          (explained.each made.place made.call (object_of life.object) (made_front calls more made.place made.call (object_of life.object) made.there))
-
-      pub access_unexplained_now : left ≡ false → IsOfNoOrder calls at.call
-      access_unexplained_now none = record {
-        accesses = own.0;
-        place = made.place;
-        maker = made.call;
-        object = object_of life.object;
-        made = made.there;
-        of_call = object_cell ∙ sym own.1;
-        unexplained = λ order. none_with_more none (at.call.end + 1) (omega arith) [] (λ i a is. absurd (nowhere i a is))
-            (subst (λ (cs : List Call). IsExplained cs (object_of life.object)) (sym (append-nil calls)) order);
-      }
-        where
-          nowhere : (i : ℕ) (a : Call) → IsAt [] i a → ⊥
-          nowhere zero a is = cc is
-          nowhere (suc i) a is = cc is
 
 -- ---- what is open is of small numbers
 

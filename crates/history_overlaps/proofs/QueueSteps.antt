@@ -12,6 +12,9 @@ use Rattle.history_overlaps.proofs.CallPlaces.{at_front, at_below, at_end, at_on
 pub one_key : (a b : Call) (i j : ℕ) → i < 4294967296 → j < 4294967296 → key_of a i ≡ key_of b j → i ≡ j
 one_key a b i j small small' same = omega (arith, small, small', same)
 
+pub less_or_same : (m n : ℕ) → m ≤ n → (m < n) ⊎ (m ≡ n)
+less_or_same m n le = grind arith
+
 pub ended_below : (calls : List Call) (waits : ℕ → Option Pending) (i : ℕ) → HasEnded calls waits i → i < length calls
 ended_below calls waits i over = at_below calls i over.0 over.1
 
@@ -69,8 +72,9 @@ module _ (calls : List Call) (call : Call) (waits waits' : ℕ → Option Pendin
         let old_i = subst (λ (d : Call). IsAt calls i d) (at_same (calls ++ call ∷ []) i before.0 a (at_front calls (call ∷ []) i before.0 before.1) at_i) before.1 in
         elim (at_one calls call j b at_j) [
           | inl old_j ↦ h.order i j a b before old_i old_j (waited_before j b old_j w)
-          | inr new_j ↦ subst (λ (d : Call). a.end ≤ d.end) new_j.1
-              (let first = may.behind i a before old_i in let takes = may.takes_time in omega (arith, first, takes))
+          | inr new_j ↦ subst (λ (d : Call). key_of a i < key_of d j) new_j.1
+              (let early = may.behind i a before old_i in let takes = may.takes_time in
+              let below = at_below calls i a old_i in let few = may.few in omega (arith, early, takes, below, few))
         ];
     few = let few = may.few in let long = length-append calls (call ∷ []) in omega (arith, few, long);
   }
@@ -117,14 +121,15 @@ module _ (calls : List Call) (waits waits' : ℕ → Option Pending) (key : ℕ)
   queue_ends least = record {
     keyed = λ q r is. h.keyed q r (waited_too q r is).1;
     reach = λ i j a b at_i at_j w. h.reach i j a b at_i at_j (w.0, (waited_too (key_of a i) w.0 w.1).1);
-    order = λ i j a b over at_i at_j w. let before = (waited_too (key_of b j) w.0 w.1).1 in elim (ended_or_this i over) [
-      | inl old ↦ h.order i j a b old at_i at_j (w.0, before)
+    order = λ i j a b over at_i at_j w. let too = waited_too (key_of b j) w.0 w.1 in elim (ended_or_this i over) [
+      | inl old ↦ h.order i j a b old at_i at_j (w.0, too.1)
       | inr this ↦
           let same = at_same calls ending.place ending.call a ending.there (subst (λ (q : ℕ). IsAt calls q a) this at_i) in
-          let first = least (key_of b j) w.0 before in
-          let is = ending.is_key in let low = small j b at_j in
-          let late : ending.call.end ≤ b.end = omega (arith, first, is, low) in
-          subst (λ (d : Call). d.end ≤ b.end) same late
+          let is = ending.is_key in let late = behind (key_of b j) (least (key_of b j) w.0 too.1) too.0 in
+          subst (λ (d : Call). key_of d i < key_of b j) same (omega (arith, is, this, late))
     ];
     few = h.few;
   }
+    where
+      behind : (q : ℕ) → key ≤ q → q ≢ key → key < q
+      behind q le apart = elim (less_or_same key q le) [ inl early ↦ early | inr same ↦ absurd (apart (sym same)) ]

@@ -21,7 +21,7 @@ use Rattle.history_overlaps.proofs.Finish.{life_of}
 use Rattle.history_overlaps.proofs.JudgesEnd.{it_was_waiting, other_ends, placed_none}
 use Rattle.history_overlaps.proofs.LivesEnd.{another_ends, made_at_cell, made_by_new, made_ends, refused_ends}
 use Rattle.history_overlaps.proofs.LivesWrong.{maker_by_new, overlap, serial_again, unfair}
-use Rattle.history_overlaps.proofs.QueueSteps.{ended_on, ended_or_this, ending, it_ended, it_waited, queue_ends}
+use Rattle.history_overlaps.proofs.QueueSteps.{ended_on, ended_or_this, ending, it_ended, it_waited, queue_ends, small_place}
 use Rattle.history_overlaps.proofs.StateAccess.{access_is_no_new, accesses_cell}
 
 module _ (calls : List Call) (waits waits' : ℕ → Option Pending) (key : ℕ) (pending : Pending) (stop : StopsWaiting waits waits' key pending) where
@@ -50,7 +50,9 @@ module _ (calls : List Call) (waits waits' : ℕ → Option Pending) (key : ℕ)
 
     -- what ended before did so no later
     pub in_order : (i : ℕ) (b : Call) → HasEnded calls waits i → IsAt calls i b → b.end ≤ this.call.end
-    in_order i b over is = h.queue.order i this.place b this.call over is this.there waiting
+    in_order i b over is =
+        let before = h.queue.order i this.place b this.call over is this.there waiting in
+        let small = small_place calls waits h.queue this.place this.call this.there in omega (arith, before, small)
 
     -- a `free` ends
     pub free_ends : pending ≡ FreeEnds → Holds calls waits' lives starts cells serials freed

@@ -1,6 +1,7 @@
 -- What is found of the text of a history of overlapping calls.
 use Rattle.std.specs.Prelude.{◌≡◌, ◌⊎◌, ℕ, ◌+◌, ◌^◌, ◌<◌, ◌≤◌, List, [], ◌∷◌, ◌++◌, Option, Some, None, Result, Ok, length}
 use Rattle.std.specs.Io.KnownBytes.{Consumes, IsAtEnd}
+use Rattle.model_intervals.specs.Completions.{IsFirstWrong}
 use Rattle.model_intervals.specs.Intervals.{Call, IsLinearizable}
 use Rattle.model_intervals.specs.OverlappingCalls.{IsAt, IsHistory}
 use Rattle.history_reading.specs.CallInputs.{HasCome, HasRead}
@@ -53,14 +54,15 @@ pub record IsMisusedText (text : List ℕ) (line : ℕ) (misuse : Misuse) : Type
 abbrev pub IsUnexplainedFrom : List Call → List ℕ → Type 0
 IsUnexplainedFrom calls text = AreFirstCalls calls text × IsUnexplainedText text
 
--- the answer of the call in this line has this flaw, among the first calls of the text that was read. These are a
--- history, so no rule of use is broken. No order explains the calls of any text that begins so, or the whole text was
--- read and no order explains its calls
+-- the call in this line is the first wrong one by its end, and its answer has this flaw, among the first calls of the text
+-- that was read. These are a history, so no rule of use is broken. No order explains the calls of any text that begins so,
+-- or the whole text was read and no order explains its calls
 pub record IsFlawedText (left' : Option (List ℕ)) (text : List ℕ) (line : ℕ) (flaw : Flaw) : Type 0 where
   pub calls : List Call
   pub number : ℕ
   pub in_line : line ≡ number + 2
   pub history : IsHistory calls
+  pub first_wrong : IsFirstWrong calls number
   pub flawed : IsFlawAt calls number flaw
   pub unexplained : ((more : List ℕ) → IsUnexplainedFrom calls (text ++ more)) ⊎ (IsUnexplainedFrom calls text × IsAtEnd left')
 
@@ -101,13 +103,15 @@ pub record HasTaken (history : CallInput) (t : Timeline) (left left' : Option (L
 abbrev pub IsJudgedBefore : List Call → Call → CallVerdict → Type 0
 IsJudgedBefore calls call (Misused line misuse) = (number : ℕ) × (line ≡ number + 2) × IsMisusedAt (calls ++ call ∷ []) number misuse
     × NoneGoesOn (calls ++ call ∷ []) call.begin
-IsJudgedBefore calls call (Flawed line flaw) = (number : ℕ) × (line ≡ number + 2) × IsHistory calls × IsFlawAt calls number flaw × CannotBe calls call.begin
+IsJudgedBefore calls call (Flawed line flaw) = (number : ℕ) × (line ≡ number + 2) × IsHistory calls × IsFirstWrong calls number × IsFlawAt calls number flaw
+    × CannotBe calls call.begin
 IsJudgedBefore calls call (Linearizable entries) = ⊥
 IsJudgedBefore calls call (Undecided line fault) = ⊥
 
 -- what a verdict claims if it is told when all these calls have ended
 abbrev pub IsJudgedAtEnd : List Call → CallVerdict → Type 0
-IsJudgedAtEnd calls (Flawed line flaw) = (number : ℕ) × (line ≡ number + 2) × IsHistory calls × IsFlawAt calls number flaw × (IsLinearizable calls → ⊥)
+IsJudgedAtEnd calls (Flawed line flaw) = (number : ℕ) × (line ≡ number + 2) × IsHistory calls × IsFirstWrong calls number × IsFlawAt calls number flaw
+    × (IsLinearizable calls → ⊥)
 IsJudgedAtEnd calls verdict = ⊥
 
 -- the verdict is the one that was found, or it is `Undecided`

@@ -1,5 +1,6 @@
 -- What is found at the end of a call.
 use Rattle.std.specs.Prelude.{◌≡◌, ◌≢◌, ℕ, ◌*◌, ◌%◌, ◌<◌, ◌≤◌, Bool, List, Option, Some, None}
+use Rattle.model_intervals.specs.Completions.{IsFirstWrong}
 use Rattle.model_intervals.specs.Intervals.{Call}
 use Rattle.model_intervals.specs.Objects.{Meet}
 use Rattle.model_intervals.specs.OverlappingCalls.{IsAt}
@@ -62,10 +63,10 @@ pub record IsFirstBefore (waits waits' : ℕ → Option Pending) (moment number 
 abbrev pub Past : List Call → (ℕ → Option Pending) → ℕ → Type 0
 Past calls waits moment = (i : ℕ) (a : Call) → HasEnded calls waits i → IsAt calls i a → a.end < moment
 
--- the answer of the call that is found has the flaw that is found, and no calls that begin from the moment on continue
--- the calls so far to a history that is explained by object
+-- the call that is found is the first wrong one by its end, and its answer has the flaw that is found. No calls that begin
+-- from the moment on continue the calls so far to a history that is explained by object
 abbrev pub IsRuledOut : Timeline → ℕ → Found → Type 0
-IsRuledOut t moment found = (calls : List Call) → Stands calls t → IsFlawAt calls found.number found.flaw × CannotBe calls moment
+IsRuledOut t moment found = (calls : List Call) → Stands calls t → IsFirstWrong calls found.number × IsFlawAt calls found.number found.flaw × CannotBe calls moment
 
 -- the calls that end before the moment are ended in the timeline, and no flaw was found: the timeline represents the
 -- same calls before and after

@@ -4,11 +4,10 @@ use Rattle.model_words.specs.declared.commands.Reply.TheVariants.{Refused as Ref
 use Rattle.model_words.specs.declared.refusals.Refusal.{Refusal}
 use Rattle.model_intervals.specs.Intervals.{Call}
 use Rattle.model_intervals.specs.Objects.{Object, IsFairNew, IsMadeAt, Meet, is_access, object_made}
-use Rattle.model_intervals.specs.OverlappingCalls.{IsAt, IsNew, cell_at}
+use Rattle.model_intervals.specs.OverlappingCalls.{IsAt, IsNew}
 use Rattle.text_words.specs.RecordedWords.{plain_reply}
 use Rattle.text_words.specs.declared.recorded.RecordedReply.{RecordedReply}
 use Rattle.text_words.specs.declared.recorded.RecordedReply.TheVariants.{Refused}
-use Rattle.history_overlaps.specs.Judges.{IsExplained}
 use Rattle.history_overlaps.specs.Lives.{NoneFrees}
 use Rattle.history_overlaps.specs.declared.flaws.Flaw.{Flaw}
 use Rattle.history_overlaps.specs.declared.flaws.Flaw.TheVariants.{SerialAgain, NoByte, StrangeRefusal, Overlaps, NoOrder}
@@ -44,23 +43,13 @@ pub record IsUnfair (call : Call) (answer : RecordedReply) : Type 0 where
   pub answers : call.entry.reply ≡ plain_reply answer
   pub unfair : IsFairNew call.entry.command call.entry.reply → ⊥
 
--- the call is an access to an object whose accesses no order explains
-pub record IsOfNoOrder (calls : List Call) (call : Call) : Type 0 where
-  pub accesses : is_access call.entry.command ≡ true
-  pub place : ℕ
-  pub maker : Call
-  pub object : Object
-  pub made : IsMadeAt calls place maker object
-  pub of_call : object.cell ≡ cell_at call
-  pub unexplained : IsExplained calls object → ⊥
-
 -- the answer of this call, which is at the place `number`, has the flaw
 abbrev pub IsFlawOf : List Call → ℕ → Call → Flaw → Type 0
 IsFlawOf calls number call SerialAgain = IsSerialAgain calls number call
 IsFlawOf calls number call (NoByte answer) = IsUnfair call answer
 IsFlawOf calls number call (StrangeRefusal refusal) = IsUnfair call (Refused refusal)
 IsFlawOf calls number call (Overlaps serial place) = IsOverlapping calls call serial place
-IsFlawOf calls number call (NoOrder unexplained) = IsOfNoOrder calls call
+IsFlawOf calls number call (NoOrder unexplained) = is_access call.entry.command ≡ true
 
 -- the answer of the call at this place has the flaw
 abbrev pub IsFlawAt : List Call → ℕ → Flaw → Type 0

@@ -1,7 +1,6 @@
 pub mod Accesses
 pub mod Begins
 pub mod Checks
-pub mod EndOrders
 pub mod Ends
 pub mod Flaws
 pub mod Followed

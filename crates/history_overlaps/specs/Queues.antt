@@ -41,12 +41,16 @@ pub record WaitsAt (calls : List Call) (key : ℕ) (pending : Pending) : Type 0 
   pub is_key : key ≡ key_of call place
   pub suits : Suits call place pending
 
--- only calls that have begun wait. A waiting call ends no earlier than any call began, and no earlier than any ended
--- call ended. There are at most 2^32 calls
+-- each call that has ended is before each waiting call in the order of ends
+abbrev pub EndInOrder : List Call → (ℕ → Option Pending) → Type 0
+EndInOrder calls waits = (i j : ℕ) (a b : Call) → HasEnded calls waits i → IsAt calls i a → IsAt calls j b → IsWaiting waits b j → key_of a i < key_of b j
+
+-- only calls that have begun wait. A waiting call ends no earlier than any call began, and is behind the ended
+-- calls in the order of ends. There are at most 2^32 calls
 pub record Queue (calls : List Call) (waits : ℕ → Option Pending) : Type 0 where
   pub keyed : (key : ℕ) (pending : Pending) → waits key ≡ Some pending → WaitsAt calls key pending
   pub reach : (i j : ℕ) (a b : Call) → IsAt calls i a → IsAt calls j b → IsWaiting waits a i → b.begin ≤ a.end
-  pub order : (i j : ℕ) (a b : Call) → HasEnded calls waits i → IsAt calls i a → IsAt calls j b → IsWaiting waits b j → a.end ≤ b.end
+  pub order : EndInOrder calls waits
   pub few : length calls ≤ 4294967296
 
 -- the call is valid and may begin next: no call so far began later, the ended calls ended before the new call begins,

@@ -3,6 +3,7 @@ use Rattle.std.specs.Prelude.{◌≡◌, ◌≢◌, ℕ, ◌*◌, ◌%◌, ◌<�
 use Rattle.std.specs.Ordering.{nat_cmp}
 use Rattle.std.specs.BTreeMap.{get}
 use Rattle.model_memory.specs.Plain.{Entry}
+use Rattle.model_intervals.specs.Completions.{IsFirstWrong}
 use Rattle.model_intervals.specs.Intervals.{Call}
 use Rattle.history_number_set.specs.Ranges.{Has}
 use Rattle.history_overlaps.specs.Accesses.{access_of}
@@ -69,8 +70,9 @@ abbrev pub IsEnding : Timeline → ℕ → Pending → Type 0
 IsEnding t number pending = (calls : List Call) × (waits : ℕ → Option Pending) × (key : ℕ) × (key % 4294967296 ≡ number)
     × StopsWaiting waits (waits_of t) key pending × StandsWith calls waits t
 
--- the answer of the waiting call that ends first, which has this number, has a flaw. At each moment after that end, no
--- calls that begin from then on continue the calls so far to a history that is explained by object
+-- the waiting call that ends first has this number. It is the first wrong call by its end, and its answer has the flaw.
+-- At each moment after that end, no calls that begin from then on continue the calls so far to a history that is
+-- explained by object
 abbrev pub IsFlawed : Timeline → ℕ → Pending → Flaw → Type 0
 IsFlawed old number pending flaw = (calls : List Call) (waits : ℕ → Option Pending) (key moment : ℕ) → key % 4294967296 ≡ number → StopsWaiting waits (waits_of old) key pending
-    → StandsWith calls waits old → key < moment * 4294967296 → IsFlawAt calls number flaw × CannotBe calls moment
+    → StandsWith calls waits old → key < moment * 4294967296 → IsFirstWrong calls number × IsFlawAt calls number flaw × CannotBe calls moment

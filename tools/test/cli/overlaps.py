@@ -15,7 +15,7 @@ import reference
 
 TINY = 1000
 LEAST = 100
-IN_ORDER, WITHOUT_ORDER, OUTSIDE_LIVES = "linearizable", "without order", "outside their lives"
+IN_ORDER, WITHOUT_ORDER, NO_HISTORY = "linearizable", "without order", "no histories"
 
 
 def cases(suite):
@@ -29,19 +29,21 @@ def cases(suite):
 
 
 def tiny_histories(suite):
-    """Random histories of up to 5 calls, each judged as a search over all orders judges it."""
+    """Random histories of up to 5 calls. Searches over all orders find the same first wrong call, or broken rule."""
     source = random.Random(2026)
     counts, faults = collections.Counter(), []
     for number in range(TINY):
         calls = list(tiny_calls(source))
         text = lines(["history 2", *calls])
-        kind = kind_of(text.decode())
+        kind, recorded = kind_of(text.decode()), reference.calls_of_text(text.decode())[0]
         counts[kind] += 1
         run = suite.run("check", suite.write("tiny.history", text))
-        word = run.output.split(b" ")[0]
-        if (run.status, word, run.errors) != ((0, b"linearizable", b"") if kind == IN_ORDER else (3, b"line", b"")):
-            faults.append(f"{number}, {calls}: {kind}")
-    few = [f"{counts[kind]} {kind}" for kind in (IN_ORDER, WITHOUT_ORDER, OUTSIDE_LIVES) if counts[kind] <= LEAST]
+        verdict = run.output.decode().rstrip("\n")
+        differs = compare.difference_of_none if kind == NO_HISTORY else compare.difference
+        told = differs(recorded, verdict)
+        if told or (run.status, run.errors) != (0 if kind == IN_ORDER else 3, b""):
+            faults.append(f"{number}, {calls}: {kind}, {verdict}, {told}")
+    few = [f"{counts[kind]} {kind}" for kind in (IN_ORDER, WITHOUT_ORDER, NO_HISTORY) if counts[kind] <= LEAST]
     suite.report(f"overlaps: {TINY} random histories, as all orders of each have it", faults[:3] + few)
 
 
@@ -65,14 +67,14 @@ def random_new(source, cell):
 def random_call(source, cell):
     """A `free`, a store or a load."""
     offset, byte = source.choice((0, 0, 0, 1)), source.randrange(2)
-    store, load = f"put {cell} {offset} 0{byte} -> done", f"get {cell} {offset} 1 -> bytes 0{byte}"
+    store, load = f"put {cell} {offset} {byte}{byte} -> done", f"get {cell} {offset} 1 -> bytes {byte}{byte}"
     return source.choice((f"free {cell} -> done", *[store] * 3, *[load] * 3))
 
 
 def kind_of(text):
     """What a search over all orders finds of a history."""
     if not compare.is_history(reference.calls_of_text(text)[0]):
-        return OUTSIDE_LIVES
+        return NO_HISTORY
     return IN_ORDER if orders.is_linearizable(orders.calls_of_text(text)) else WITHOUT_ORDER
 
 

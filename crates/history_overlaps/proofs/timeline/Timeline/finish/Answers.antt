@@ -19,5 +19,12 @@ module _ (c : goal.After-struct_known-1) where
   out : IsRuledOut c.args.self.now (2 ^ 64) c.in-Some.found
   out = subst (λ (o : Option Found). IfSome o (IsRuledOut c.args.self.now (2 ^ 64))) c.in-Some.is c.in_ok-found.ensures.flawed
 
+pub overflow_add-result : goal.overflow_add-result
+overflow_add-result c =
+    let kept = c.requires.kept in
+    let found = subst (λ (o : Option Found). IfSome o (IsRuledOut c.args.self.now (2 ^ 64))) c.in-Some.is c.in_ok-found.ensures.flawed in
+    let below = flaw_below c.args.self.now kept.0 kept.2 c.in-Some.found.number c.in-Some.found.flaw (found kept.0 kept.2.stands).1 in
+    let long = kept.1 in let lines = c.requires.lines in omega (arith, below, long, lines)
+
 pub returns-clause-judged : goal.returns-clause-judged
 returns-clause-judged c = λ calls kept. kept_flawed c.args.self.now calls kept c.in-Some.found (out c)

@@ -22,6 +22,13 @@ module _ (c : goal.After-struct_known-1) where
   out = subst (λ (m : ℕ). IsRuledOut c.args.self.now m c.in-Some.found) c.from.ensures
       (subst (λ (o : Option Found). IfSome o (IsRuledOut c.args.self.now c.from.result)) c.in-Some.is c.in_ok-found.ensures.flawed)
 
+pub overflow_add-result : goal.overflow_add-result
+overflow_add-result c =
+    let kept = c.requires.kept in
+    let found = subst (λ (o : Option Found). IfSome o (IsRuledOut c.args.self.now c.from.result)) c.in-Some.is c.in_ok-found.ensures.flawed in
+    let below = flaw_below c.args.self.now kept.0 kept.2 c.in-Some.found.number c.in-Some.found.flaw (found kept.0 kept.2.stands).1 in
+    let long = kept.1 in let lines = c.requires.lines in omega (arith, below, long, lines)
+
 pub returns-in-Some-clause-judged : goal.returns-in-Some-clause-judged
 returns-in-Some-clause-judged c = λ calls long kept in_order. kept_flawed_before c.args.self.now calls kept (plain_call c.args.call.now) c.in-Some.found (out c)
 
