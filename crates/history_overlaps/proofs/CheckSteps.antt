@@ -10,6 +10,7 @@ use Rattle.model_intervals.specs.Intervals.{Call, IsLinearizable}
 use Rattle.model_intervals.specs.Objects.{IsExplainedByObject}
 use Rattle.model_intervals.specs.OverlappingCalls.{HasEffect, IsAt, IsHistory, cell_at}
 use Rattle.model_intervals.proofs.ByObject.{explained}
+use Rattle.model_intervals.proofs.LaterCalls.{fewer_ended}
 use Rattle.model_intervals.proofs.OneOrder.{linearizable}
 use Rattle.model_history.specs.Recorded.{many_cells}
 use Rattle.model_words.specs.declared.faults.FaultKind.{FaultKind}
@@ -22,12 +23,12 @@ use Rattle.history_reading.specs.CallReadings.{CallFault, CallLine, CallReading,
 use Rattle.history_reading.specs.declared.faults.CallError.{CallError}
 use Rattle.history_reading.specs.declared.faults.CallError.TheVariants.{Text, Order, Read, Memory}
 use Rattle.history_reading.specs.declared.call_inputs.CallInput.{CallInput}
-use Rattle.history_overlaps.specs.Checks.{HasJudged, HasNotJudged, IsJudgedAtEnd, IsJudgedBefore, IsKept, IsTold}
+use Rattle.history_overlaps.specs.Checks.{EndedBeforeOne, HasJudged, HasNotJudged, HideNoFlaw, IsJudgedAtEnd, IsJudgedBefore, IsKept, IsTold}
 use Rattle.history_overlaps.specs.Ends.{AreEnded, IsRuledOut, NoneBefore, Past}
 use Rattle.history_overlaps.specs.Flaws.{IsFlawAt}
 use Rattle.history_overlaps.specs.Lives.{BeginFrom}
 use Rattle.history_overlaps.specs.Misuses.{IsMisusedAt}
-use Rattle.history_overlaps.specs.Queues.{MayBegin, key_of}
+use Rattle.history_overlaps.specs.Queues.{HasEnded, MayBegin, key_of}
 use Rattle.history_overlaps.specs.Standing.{Stands, lives_of, starts_of, waits_of}
 use Rattle.history_overlaps.specs.Timelines.{FewOpen, StartsWaiting}
 use Rattle.history_overlaps.specs.declared.flaws.Flaw.{Flaw}
@@ -42,8 +43,10 @@ use Rattle.history_overlaps.specs.declared.verdicts.CallVerdict.TheVariants.{Lin
 use Rattle.history_number_set.specs.Ranges.{Has}
 use Rattle.history_overlaps.proofs.BegunWrong.{none_goes_on}
 use Rattle.history_overlaps.proofs.CallPlaces.{at_below, at_end, at_front, at_one, at_same}
+use Rattle.history_overlaps.proofs.Completed.{completed}
 use Rattle.history_overlaps.proofs.Finish.{is_explained}
 use Rattle.history_overlaps.proofs.LivesWrong.{all_at}
+use Rattle.history_overlaps.proofs.PickedHistory.{ended_before}
 use Rattle.history_overlaps.proofs.QueueSteps.{small_place}
 use Rattle.history_overlaps.proofs.AccessOrders.{tells}
 
@@ -359,9 +362,20 @@ judged_by left left' found P h judge (Linearizable entries) told = judge (Linear
 judged_by left left' found P h judge (Misused line misuse) told = judge (Misused line misuse) (subst (λ (r : Result (Option CallVerdict) Stop). IfOk r (λ f. IfSome f P)) told h)
 judged_by left left' found P h judge (Flawed line flaw) told = judge (Flawed line flaw) (subst (λ (r : Result (Option CallVerdict) Stop). IfOk r (λ f. IfSome f P)) told h)
 
+-- no flaw of calls that ended before another one began is hidden
+pub none_hidden : (t : Timeline) (calls : List Call) → IsKept t calls → HideNoFlaw calls
+none_hidden t calls kept = record {
+  history = kept.stands.history;
+  completed = fewer_ended calls (HasEnded calls (waits_of t)) (EndedBeforeOne calls) over
+      (completed calls (waits_of t) (lives_of t) (starts_of t) (Has t.cells) (Has t.serials) (Has t.freed) kept.stands);
+}
+  where
+    over : (i : ℕ) → EndedBeforeOne calls i → HasEnded calls (waits_of t) i
+    over i (a, b, j, at_i, at_j, early) = ended_before calls (waits_of t) kept.stands.queue j b at_j i a at_i early
+
 -- the fault of a text
-pub not_judged : (left left' : Option (List ℕ)) (calls : List Call) (error : CallError) → HasStopped left left' calls error → HasNotJudged left left' error
-not_judged left left' calls (Text fault) stopped = (calls, stopped)
-not_judged left left' calls (Order line) stopped = (calls, stopped)
-not_judged left left' calls Read stopped = tt
-not_judged left left' calls Memory stopped = tt
+pub not_judged : (left left' : Option (List ℕ)) (calls : List Call) (error : CallError) → HideNoFlaw calls → HasStopped left left' calls error → HasNotJudged left left' error
+not_judged left left' calls (Text fault) hidden stopped = (calls, stopped, hidden)
+not_judged left left' calls (Order line) hidden stopped = (calls, stopped, hidden)
+not_judged left left' calls Read hidden stopped = tt
+not_judged left left' calls Memory hidden stopped = tt

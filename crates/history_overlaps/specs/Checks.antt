@@ -1,7 +1,7 @@
 -- What is found of the text of a history of overlapping calls.
 use Rattle.std.specs.Prelude.{◌≡◌, ◌⊎◌, ℕ, ◌+◌, ◌^◌, ◌<◌, ◌≤◌, List, [], ◌∷◌, ◌++◌, Option, Some, None, Result, Ok, length}
 use Rattle.std.specs.Io.KnownBytes.{Consumes, IsAtEnd}
-use Rattle.model_intervals.specs.Completions.{IsFirstWrong}
+use Rattle.model_intervals.specs.Completions.{HasCompletion, IsFirstWrong}
 use Rattle.model_intervals.specs.Intervals.{Call, IsLinearizable}
 use Rattle.model_intervals.specs.OverlappingCalls.{IsAt, IsHistory}
 use Rattle.history_reading.specs.CallInputs.{HasCome, HasRead}
@@ -54,9 +54,9 @@ pub record IsMisusedText (text : List ℕ) (line : ℕ) (misuse : Misuse) : Type
 abbrev pub IsUnexplainedFrom : List Call → List ℕ → Type 0
 IsUnexplainedFrom calls text = AreFirstCalls calls text × IsUnexplainedText text
 
--- the call in this line is the first wrong one by its end, and its answer has this flaw, among the first calls of the text
--- that was read. These are a history, so no rule of use is broken. No order explains the calls of any text that begins so,
--- or the whole text was read and no order explains its calls
+-- the call in this line is the first wrong one by its end, and its answer has this flaw, among the first calls of the
+-- text that was read. These are a history, so no rule of use is broken. No order explains the calls of any text that
+-- begins so, or the whole text was read and no order explains its calls
 pub record IsFlawedText (left' : Option (List ℕ)) (text : List ℕ) (line : ℕ) (flaw : Flaw) : Type 0 where
   pub calls : List Call
   pub number : ℕ
@@ -73,10 +73,21 @@ HasJudged left left' (Misused line misuse) = (text : List ℕ) × Consumes left 
 HasJudged left left' (Flawed line flaw) = (text : List ℕ) × Consumes left left' text × IsFlawedText left' text line flaw
 HasJudged left left' (Undecided line fault) = Unit {0}
 
--- why there is no verdict: the text has this fault. `Read` and `Memory` claim nothing about the text
+-- the call at this place ended before some call began
+abbrev pub EndedBeforeOne : List Call → ℕ → Type 0
+EndedBeforeOne calls i = (a b : Call) × (j : ℕ) × IsAt calls i a × IsAt calls j b × (a.end < b.begin)
+
+-- the calls are a history, and those of them can be completed that ended before some call began. So none of these is
+-- wrong, and whether another one is depends on calls that may follow
+pub record HideNoFlaw (calls : List Call) : Type 0 where
+  pub history : IsHistory calls
+  pub completed : HasCompletion calls (EndedBeforeOne calls)
+
+-- why there is no verdict: the text has this fault, which hides no flaw of the calls before it. `Read` and `Memory`
+-- claim nothing about the text
 abbrev pub HasNotJudged : Option (List ℕ) → Option (List ℕ) → CallError → Type 0
-HasNotJudged left left' (Text fault) = (calls : List Call) × HasRead left left' (record { calls = calls; fault = Some (OfText fault) })
-HasNotJudged left left' (Order line) = (calls : List Call) × HasRead left left' (record { calls = calls; fault = Some (OutOfOrder line) })
+HasNotJudged left left' (Text fault) = (calls : List Call) × HasRead left left' (record { calls = calls; fault = Some (OfText fault) }) × HideNoFlaw calls
+HasNotJudged left left' (Order line) = (calls : List Call) × HasRead left left' (record { calls = calls; fault = Some (OutOfOrder line) }) × HideNoFlaw calls
 HasNotJudged left left' Read = Unit {0}
 HasNotJudged left left' Memory = Unit {0}
 

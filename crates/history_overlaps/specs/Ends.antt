@@ -63,8 +63,8 @@ pub record IsFirstBefore (waits waits' : ℕ → Option Pending) (moment number 
 abbrev pub Past : List Call → (ℕ → Option Pending) → ℕ → Type 0
 Past calls waits moment = (i : ℕ) (a : Call) → HasEnded calls waits i → IsAt calls i a → a.end < moment
 
--- the call that is found is the first wrong one by its end, and its answer has the flaw that is found. No calls that begin
--- from the moment on continue the calls so far to a history that is explained by object
+-- the call that is found is the first wrong one by its end, and its answer has the flaw that is found. No calls that
+-- begin from the moment on continue the calls so far to a history that is explained by object
 abbrev pub IsRuledOut : Timeline → ℕ → Found → Type 0
 IsRuledOut t moment found = (calls : List Call) → Stands calls t → IsFirstWrong calls found.number × IsFlawAt calls found.number found.flaw × CannotBe calls moment
 

@@ -1,5 +1,5 @@
--- Examples of completions, and which later calls don't matter. In the examples the old byte is 0, which a new object contains, and the new byte is 7, which `put_byte`
--- stores.
+-- Laws of completions, and examples of them. In the examples, the old byte is 0, which a new object contains. The new
+-- byte is 7, which `put_byte` stores.
 use Rattle.std.specs.Prelude.{◌≡◌, ◌↔◌, ℕ, ◌<◌, ◌≤◌, Bool, true, false, List, [], ◌∷◌, ◌++◌, length}
 use Rattle.model_intervals.specs.Completions.{EndsBy, HasCompletion, IsFirstWrong}
 use Rattle.model_intervals.specs.ExampleLaws.{first_object, get_byte, put_byte}

@@ -8,7 +8,7 @@ abbrev pub picked : (ℕ → Bool) → List Call → List Call
 picked taken [] = []
 picked taken (call ∷ calls) = if taken 0 then call ∷ picked (λ i. taken (suc i)) calls else picked (λ i. taken (suc i)) calls
 
--- the calls can be completed, where those at the places in `ended` have ended and the others are pending: each call that
+-- the calls can be completed, if those at the places in `ended` have ended and the others are pending: each call that
 -- has ended has had its effect, and of the pending calls some have. Some order explains these calls
 pub record HasCompletion (calls : List Call) (ended : ℕ → Type 0) : Type 0 where
   pub taken : ℕ → Bool

@@ -9,9 +9,9 @@ pub fn pending_calls()
     ensures free { PendingCallsAreFree }
 {}
 
-/// Of two `get` that return a byte that no call stored, the first wrong call is the one that ends first. If both end at
-/// the same moment, it is the one that is first in the list. If a stale `get` ends before a wrong `get`, the stale `get`
-/// is the first wrong call.
+/// Of two `get` that return a byte that no call stored, the first wrong call is the one that ends first. If both end
+/// at the same moment, it is the one that is first in the list. If a stale `get` ends before a wrong `get`, the stale
+/// `get` is the first wrong call.
 pub fn first_wrong_calls()
     ensures by_end { FirstToEndIsFirstWrong }
     ensures by_place { FirstInListIsFirstWrong }

@@ -12,7 +12,7 @@ use Rattle.history_overlaps.specs.Standing.{lives_of}
 use Rattle.history_overlaps.specs.Timelines.{FewOpen}
 use Rattle.history_overlaps.specs.declared.stops.Stop.{Stop}
 use Rattle.history_overlaps.specs.declared.verdicts.CallVerdict.{CallVerdict}
-use Rattle.history_overlaps.proofs.CheckSteps.{judged_at_end, judged_before, judged_by, not_judged}
+use Rattle.history_overlaps.proofs.CheckSteps.{judged_at_end, judged_before, judged_by, none_hidden, not_judged}
 use Rattle.history_overlaps.proofs.checks.judge_calls.Goals as goal
 
 pub returns-in_err-call-clause-fault : goal.returns-in_err-call-clause-fault
@@ -20,7 +20,7 @@ returns-in_err-call-clause-fault g c =
     let left = g.I.Source.remaining c.args.input.now in let left' = g.I.Source.remaining c.next.new.input in
     let taken = c.loop-call.invariant.taken in let error = c.in_err-call.field-0.0 in
     handed_on c.from_residual.result error (HasNotJudged left left') c.from_residual.ensures.1
-    (not_judged left left' taken.calls error (c.in_err-call.ensures.stopped left taken.calls taken.come))
+    (not_judged left left' taken.calls error (none_hidden c.loop-call.timeline taken.calls taken.kept) (c.in_err-call.ensures.stopped left taken.calls taken.come))
 
 pub overflow_sub-number : goal.overflow_sub-number
 overflow_sub-number g c =
