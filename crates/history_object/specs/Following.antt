@@ -3,7 +3,7 @@ use Rattle.std.specs.Prelude.{◌≡◌, ◌≢◌, ◌↔◌, ℕ, suc, Bool, �
 use Rattle.history_object.specs.Orders.{EndsBefore, HasEnded, NumberedEvent, begun_behind}
 use Rattle.history_object.specs.Placed.{ArePlaced, HavePassed, none_taken}
 use Rattle.history_object.specs.declared.refutation.Refutation.{Refutation}
-use Rattle.history_object.specs.Parts.{HasMoreMet}
+use Rattle.history_object.specs.Parts.{AreLeft, HasMoreMet}
 use Rattle.history_object.specs.Refuted.{IsRefuted}
 use Rattle.history_object.specs.Standings.{Begins, CanGoOn, Ends, Event, Standing, first_standing}
 use Rattle.history_object.specs.TimedCalls.{Timed}
@@ -18,6 +18,10 @@ pub record TimedStanding (S C : Type 0) : Type 0 where
 -- the call with this number is pending
 abbrev pub IsOpen : {S C : Type 0} → TimedStanding S C → ℕ → Type 0
 IsOpen judge number = (place : ℕ) × (slice_get judge.numbers place ≡ Some (Some number))
+
+-- the call that is pending under this number
+abbrev pub IsCallOf : {S C : Type 0} → TimedStanding S C → ℕ → C → Type 0
+IsCallOf judge number call = (place : ℕ) × (slice_get judge.numbers place ≡ Some (Some number)) × (slice_get judge.standing.pending place ≡ Some (Some call))
 
 -- a call is pending at each of the 64 places
 abbrev pub IsFull : {S C : Type 0} → TimedStanding S C → Type 0
@@ -105,6 +109,16 @@ pub record TakesPlace {S C : Type 0} (number : ℕ) (call : C) (old new : TimedS
   pub numbers : new.numbers ≡ slice_set old.numbers place (Some number)
   pub pending : new.standing.pending ≡ slice_set old.standing.pending place (Some call)
   pub kept : new.standing.kept ≡ old.standing.kept
+
+-- the call with a number ended and left its place
+pub record EndsAtPlace {S C : Type 0} (effect : S → C → Option S) (reads : S → C → Bool) (conflict : C → C → Bool) (number : ℕ)
+    (old new : TimedStanding S C) : Type 0 where
+  pub place : ℕ
+  pub here : slice_get old.numbers place ≡ Some (Some number)
+  pub once : (q : ℕ) → slice_get old.numbers q ≡ Some (Some number) → place ≡ q
+  pub numbers : new.numbers ≡ slice_set old.numbers place None
+  pub pending : new.standing.pending ≡ slice_set old.standing.pending place None
+  pub left : AreLeft effect reads conflict old.standing.pending place old.standing.kept new.standing.kept
 
 -- the call with a number left its place. A way leads to each configuration that is left, from one that was kept
 pub record LeavesPlace {S C : Type 0} (effect : S → C → Option S) (number : ℕ) (old new : TimedStanding S C) (ways : List Way) : Type 0 where

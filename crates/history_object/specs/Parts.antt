@@ -60,6 +60,11 @@ abbrev pub IsLeft : {S C : Type 0} → (S → C → Option S) → (S → C → B
 IsLeft effect reads conflict pending place kept left met = (inside : ℕ → Bool) × IsPartOf conflict pending place inside
     × HasLeft (part_at effect reads pending inside) had_effect forgot_at (length pending) place kept left met
 
+-- the configurations that are left at the end of the call at a place
+abbrev pub AreLeft : {S C : Type 0} → (S → C → Option S) → (S → C → Bool) → (C → C → Bool) → List (Option C) → ℕ → List (Configuration S)
+    → List (Configuration S) → Type 0
+AreLeft {S} effect reads conflict pending place kept left = (met : Option (List (Configuration S))) × IsLeft effect reads conflict pending place kept left met
+
 -- the configurations that are met at the end of the call at a place: the kept ones, and those to which effects in a
 -- part lead that has this call
 abbrev pub AreMetAtEnd : {S C : Type 0} → (S → C → Option S) → (S → C → Bool) → (C → C → Bool) → List (Option C) → ℕ → List (Configuration S)
