@@ -1,0 +1,9 @@
+pub mod Products
+pub mod Lifted
+pub mod EndsAside
+pub mod Stores
+pub mod Beside
+pub mod Whole
+pub mod Gathered
+pub mod Fronts
+pub mod Joining

@@ -1,0 +1,118 @@
+-- The judge of a whole object, by that of the object without the parts that are set aside.
+use Rattle.std.proofs.Common.{◌≡◌, ◌≢◌, ◌↔◌, ◌⊎◌, inl, inr, ℕ, List, [], ◌∷◌, ◌++◌, Option, Some, None, slice_get, slice_set, ap, refl, sym, subst, ◌∙◌}
+use Rattle.std.proofs.lemmas.List.{append-nil}
+use Rattle.history_object.specs.declared.access.Access.{Access}
+use Rattle.history_object.specs.declared.configuration.Configuration.{Configuration}
+use Rattle.history_object.specs.Carried.{IsKept}
+use Rattle.history_object.specs.Following.{EndsAtPlace, HasSome, IsOpen, TakesPlace, TimedStanding}
+use Rattle.history_object.specs.ObjectBytes.{State, conflict, effect, reads}
+use Rattle.history_object.specs.Standings.{Begins, CanGoOn, CanPass, Ends, Event, HasPassed, Standing}
+use Rattle.history_object.proofs.Followed.{IsFollowedOn, IsFollowedToEnd, begin_is_followed, end_is_followed}
+use Rattle.history_object.proofs.Passing.{begin_passes}
+use Rattle.history_object.proofs.Swapping.{accesses_read, accesses_swap}
+use Rattle.history_parts.specs.declared.part.Part.{Part}
+use Rattle.history_parts.specs.Parts.{AreAside, AreFree, IsSameWhole, stores_of, whole}
+use Rattle.history_parts.specs.Products.{AreSame, products}
+use Rattle.history_parts.proofs.Beside.{aside_left}
+use Rattle.history_parts.proofs.EndsAside.{EndsAs, ends_left, ends_pass, ends_products}
+use Rattle.history_parts.proofs.Products.{kept_none, some_before, some_product}
+
+-- what the same configurations can pass
+can_pass_same : (pending pending' : List (Option Access)) (kept kept' : List (Configuration State)) (events : List (Event Access)) → pending' ≡ pending → AreSame kept kept'
+    → CanGoOn effect (record { pending = pending; kept = kept }) events ↔ CanGoOn effect (record { pending = pending'; kept = kept' }) events
+can_pass_same pending pending' kept kept' events is same = (
+  λ on. (on.0, (same on.0).0 on.1, subst (λ xs. CanPass effect xs on.0 events) (sym is) on.2),
+  λ on. (on.0, (same on.0).1 on.1, subst (λ xs. CanPass effect xs on.0 events) is on.2),
+)
+
+-- ---- a judge without parts
+
+pub aside_first : (kept : List (Configuration State)) → AreAside kept []
+aside_first kept = record {
+  apart = tt;
+  steady = λ calls call is. absurd (kept_none calls is);
+  possible = λ c calls call is_c is. absurd (kept_none calls is);
+  some = λ calls is. absurd (kept_none calls is);
+}
+
+-- ---- an access begins
+
+pub whole_begins : (number : ℕ) (access : Access) (old new : TimedStanding State Access) (parts : List Part) → TakesPlace number access old new
+    → TakesPlace number access (whole old parts) (whole new parts)
+whole_begins number access old new parts takes = record {
+  place = takes.place;
+  free = takes.free;
+  no_call = takes.no_call;
+  numbers = takes.numbers;
+  pending = takes.pending;
+  kept = ap (λ (kept : List (Configuration State)). products effect kept (stores_of parts)) takes.kept;
+}
+
+-- a judge that follows calls becomes one that follows these and the call that begins
+pub takes_follows : (number : ℕ) (access : Access) (old new : TimedStanding State Access) → TakesPlace number access old new → IsFollowedOn effect number access old new
+takes_follows number access old new takes =
+    let passed : HasPassed effect (Begins takes.place access) old.standing (record { pending = new.standing.pending; kept = old.standing.kept }) =
+    begin_passes effect takes.place access old.standing.pending new.standing.pending old.standing.kept takes.no_call takes.pending in
+    let on = begin_is_followed effect old.standing (record { pending = new.standing.pending; kept = old.standing.kept }) old.numbers takes.place number access takes.free passed in
+    let made : TimedStanding State Access = record { standing = record { pending = new.standing.pending; kept = old.standing.kept }; numbers = slice_set old.numbers takes.place (Some number) } in
+    let same : made ≡ new = ap (λ (kept : List (Configuration State)). record { standing = record { pending = new.standing.pending; kept = kept }; numbers = slice_set old.numbers takes.place (Some number) }) (sym takes.kept)
+    ∙ ap (λ (numbers : List (Option ℕ)). record { standing = new.standing; numbers = numbers }) (sym takes.numbers) in
+    subst (λ (j : TimedStanding State Access). IsFollowedOn effect number access old j) same on
+
+-- some configuration stays left
+pub takes_some : (number : ℕ) (access : Access) (old new : TimedStanding State Access) → TakesPlace number access old new → HasSome effect old → HasSome effect new
+takes_some number access old new takes some = (some.0, subst (λ (kept : List (Configuration State)). IsKept kept some.0) (sym takes.kept) some.1, tt)
+
+-- ---- an access ends
+
+module _ (number : ℕ) (old joined left new : TimedStanding State Access) (parts beside parts' : List Part) (joins : IsSameWhole old joined parts beside)
+    (aside : AreAside joined.standing.kept (stores_of beside)) (free : AreFree joined.standing.pending (stores_of beside))
+    (ends : EndsAtPlace effect reads conflict number joined left) where
+  ends_so : EndsAs effect joined.standing.pending ends.place joined.standing.kept left.standing.kept
+  ends_so = ends_left effect reads conflict accesses_read accesses_swap joined.standing.pending ends.place joined.standing.kept left.standing.kept ends.left
+
+  -- the parts are beside the configurations that are left
+  pub end_aside : AreAside left.standing.kept (stores_of beside)
+  end_aside = aside_left joined.standing.pending ends.place joined.standing.kept left.standing.kept (stores_of beside) aside ends_so
+
+  module _ (sets : IsSameWhole left new beside parts') where
+    passes : HasPassed effect (Ends ends.place) (whole old parts).standing (whole new parts').standing
+    passes events =
+        let before = can_pass_same old.standing.pending joined.standing.pending (products effect old.standing.kept (stores_of parts))
+        (products effect joined.standing.kept (stores_of beside)) (Ends ends.place ∷ events) joins.pending joins.kept in
+        let end = ends_pass effect joined.standing.pending left.standing.pending ends.place (products effect joined.standing.kept (stores_of beside))
+        (products effect left.standing.kept (stores_of beside)) ends.pending
+        (ends_products effect joined.standing.pending ends.place joined.standing.kept left.standing.kept (stores_of beside) aside.steady free ends_so) events in
+        let behind = can_pass_same left.standing.pending new.standing.pending (products effect left.standing.kept (stores_of beside))
+        (products effect new.standing.kept (stores_of parts')) events sets.pending sets.kept in
+        (λ on. behind.0 (end.0 (before.0 on)), λ on. before.1 (end.1 (behind.1 on)))
+
+    -- the judge of the whole object follows the calls as before
+    pub end_follows : IsFollowedToEnd effect (whole old parts) (whole new parts')
+    end_follows =
+        let here : slice_get old.numbers ends.place ≡ Some (Some number) =
+        subst (λ (numbers : List (Option ℕ)). slice_get numbers ends.place ≡ Some (Some number)) joins.numbers ends.here in
+        let once : (q : ℕ) → slice_get old.numbers q ≡ Some (Some number) → ends.place ≡ q =
+        subst (λ (numbers : List (Option ℕ)). (q : ℕ) → slice_get numbers q ≡ Some (Some number) → ends.place ≡ q) joins.numbers ends.once in
+        let on = end_is_followed effect (whole old parts).standing (whole new parts').standing old.numbers ends.place number here once passes in
+        let same : slice_set old.numbers ends.place None ≡ new.numbers =
+        ap (λ (numbers : List (Option ℕ)). slice_set numbers ends.place None) (sym joins.numbers) ∙ (sym ends.numbers ∙ sym sets.numbers) in
+        subst (λ (numbers : List (Option ℕ)). IsFollowedToEnd effect (whole old parts) (record { standing = (whole new parts').standing; numbers = numbers })) same on
+
+    -- exactly the other accesses stay open
+    pub end_open : ((n : ℕ) → IsOpen left n ↔ (IsOpen joined n × (n ≢ number))) → (n : ℕ) → IsOpen (whole new parts') n ↔ (IsOpen (whole old parts) n × (n ≢ number))
+    end_open opens n =
+        subst (λ (numbers : List (Option ℕ)). ((place : ℕ) × (slice_get numbers place ≡ Some (Some n))) ↔ (((place : ℕ) × (slice_get old.numbers place ≡ Some (Some n))) × (n ≢ number)))
+        (sym sets.numbers)
+        (subst (λ (numbers : List (Option ℕ)). IsOpen left n ↔ (((place : ℕ) × (slice_get numbers place ≡ Some (Some n))) × (n ≢ number))) joins.numbers (opens n))
+
+    -- the whole has a configuration just where the judge without the parts has one
+    pub end_some : HasSome effect left ↔ HasSome effect (whole new parts')
+    end_some = (
+      λ some.
+          let all = some_product effect left.standing.kept (stores_of beside) end_aside.steady end_aside.possible end_aside.some (some.0, some.1) in
+          (all.0, (sets.kept all.0).0 all.1, tt),
+      λ some.
+          let one = some_before effect left.standing.kept (stores_of beside) (some.0, (sets.kept some.0).1 some.1) in
+          (one.0, one.1, tt),
+    )

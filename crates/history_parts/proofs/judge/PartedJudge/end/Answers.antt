@@ -1,0 +1,33 @@
+use Rattle.std.proofs.Common.{◌≡◌, ◌≢◌, ◌↔◌, ℕ, List, subst}
+use Rattle.history_object.specs.declared.access.Access.{Access}
+use Rattle.history_object.specs.Following.{IsOpen, TimedStanding}
+use Rattle.history_object.specs.ObjectBytes.{State, effect}
+use Rattle.history_object.proofs.Followed.{IsFollowedToEnd}
+use Rattle.history_parts.specs.Parts.{whole}
+use Rattle.history_parts.proofs.Whole.{end_aside, end_follows, end_open, end_some}
+use Rattle.history_parts.proofs.judge.PartedJudge.end.Goals as goal
+
+pub set_aside-requires-clause-aside : goal.set_aside-requires-clause-aside
+set_aside-requires-clause-aside c =
+    end_aside c.args.number c.self.inside.judge c.join.new.judge c.end.new.self c.end.new.self c.self.inside.parts.items c.join.new.parts.items c.join.new.parts.items
+    c.in_ok-join.ensures.same c.in_ok-join.ensures.aside c.in_ok-join.ensures.free c.in_ok-ended.ensures.place
+
+pub returns-clause-follows : goal.returns-clause-follows
+returns-clause-follows c =
+    subst (λ (j : TimedStanding State Access). IsFollowedToEnd effect j (whole c.set_aside.new.judge c.set_aside.new.parts.items)) c.self.view_is
+    (end_follows c.args.number c.self.inside.judge c.join.new.judge c.end.new.self c.set_aside.new.judge c.self.inside.parts.items c.join.new.parts.items
+    c.set_aside.new.parts.items c.in_ok-join.ensures.same c.in_ok-join.ensures.aside c.in_ok-join.ensures.free c.in_ok-ended.ensures.place c.in_ok-set_aside.ensures.same)
+
+pub returns-clause-open : goal.returns-clause-open
+returns-clause-open c =
+    subst (λ (j : TimedStanding State Access). (n : ℕ) → IsOpen c.set_aside.new.judge n ↔ (IsOpen j n × (n ≢ c.args.number))) c.self.view_is
+    (end_open c.args.number c.self.inside.judge c.join.new.judge c.end.new.self c.set_aside.new.judge c.self.inside.parts.items c.join.new.parts.items
+    c.set_aside.new.parts.items c.in_ok-join.ensures.same c.in_ok-join.ensures.aside c.in_ok-join.ensures.free c.in_ok-ended.ensures.place c.in_ok-set_aside.ensures.same
+    c.in_ok-ended.ensures.open)
+
+pub returns-clause-some : goal.returns-clause-some
+returns-clause-some c =
+    let on = end_some c.args.number c.self.inside.judge c.join.new.judge c.end.new.self c.set_aside.new.judge c.self.inside.parts.items c.join.new.parts.items
+    c.set_aside.new.parts.items c.in_ok-join.ensures.same c.in_ok-join.ensures.aside c.in_ok-join.ensures.free c.in_ok-ended.ensures.place c.in_ok-set_aside.ensures.same in
+    let ended = c.in_ok-ended.ensures.some in
+    (λ none. on.0 (ended.0 none), λ some. ended.1 (on.1 some))

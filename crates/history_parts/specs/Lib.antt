@@ -1,0 +1,4 @@
+pub mod Products
+pub mod Aside
+pub mod Parts
+pub mod Splits
