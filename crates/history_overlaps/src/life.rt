@@ -6,7 +6,8 @@ ghost use Rattle.history_object.specs.Following.{IsOpen};
 
 use crate::objects::NewObject;
 use crate::possible::{Unexplained, unexplained_access};
-use history_object::{Access, JudgeFault, ObjectAccesses, ObjectBytes, TimedJudge};
+use history_object::{Access, JudgeFault};
+use history_parts::PartedJudge;
 use std::alloc::{AllocError, Global};
 
 /// A live object, with the judge of its accesses if an access has begun.
@@ -15,7 +16,7 @@ pub struct Life {
     /// The object.
     pub object: NewObject,
     /// The judge of the accesses to the object. `None` before the first access begins.
-    pub judge: Option<TimedJudge<ObjectAccesses>>,
+    pub judge: Option<PartedJudge>,
 }
 
 /// The result of the end of an access.
@@ -52,8 +53,7 @@ impl Life {
         if self.judge.is_some() {
             return Ok(());
         }
-        let start = ObjectBytes::new(alloc, self.object.len);
-        let judge = TimedJudge::new(alloc, start)?;
+        let judge = PartedJudge::new(alloc, self.object.len)?;
         self.judge = Some(judge);
         Ok(())
     }
@@ -61,7 +61,8 @@ impl Life {
     /// Handles the end of the pending access with this number. Returns how the access ended, or `None` if no such
     /// access is pending.
     ///
-    /// The error is `TooMany` if more than `most` configurations are met, and `Memory` if an allocation fails.
+    /// The error is `TooMany` if more than `most` configurations are met beside the parts of the object that are set
+    /// aside, and `Memory` if an allocation fails.
     pub fn end(
         &mut self,
         alloc: Global,
