@@ -73,7 +73,7 @@ apart_more {S} {C} effect (x ∷ lists) stores apart beside = (
 )
 
 -- a part at the end of the list is one of the parts before, or the new one
-last_or : {X : Type 0} (xs : List X) (y x : X) → IsKept (xs ++ y ∷ []) x → IsKept xs x ⊎ (y ≡ x)
+pub last_or : {X : Type 0} (xs : List X) (y x : X) → IsKept (xs ++ y ∷ []) x → IsKept xs x ⊎ (y ≡ x)
 last_or xs y x is = elim (kept_either xs (y ∷ []) x is) [
   | inl before ↦ inl before
   | inr last ↦ elim (kept_cases [] y x last) [ inl same ↦ inr same | inr none ↦ absurd (kept_none x none) ]

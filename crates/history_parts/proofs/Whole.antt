@@ -1,20 +1,25 @@
 -- The judge of a whole object, by that of the object without the parts that are set aside.
-use Rattle.std.proofs.Common.{◌≡◌, ◌≢◌, ◌↔◌, ◌⊎◌, inl, inr, ℕ, List, [], ◌∷◌, ◌++◌, Option, Some, None, slice_get, slice_set, ap, refl, sym, subst, ◌∙◌}
-use Rattle.std.proofs.lemmas.List.{append-nil}
+use Rattle.std.proofs.Common.{◌≡◌, ◌≢◌, ◌↔◌, ◌⊎◌, inl, inr, ℕ, zero, suc, Bool, false, List, [], ◌∷◌, ◌++◌, Option, Some, None, Result, Ok, Err, OnOk, OnErr, slice_get, slice_set, ap, refl, sym, subst, ◌∙◌}
+use Rattle.std.specs.Option.{IfSome}
+use Rattle.std.proofs.lemmas.Bool.Decides.{eqb_tells}
 use Rattle.history_object.specs.declared.access.Access.{Access}
 use Rattle.history_object.specs.declared.configuration.Configuration.{Configuration}
 use Rattle.history_object.specs.Carried.{IsKept}
-use Rattle.history_object.specs.Following.{EndsAtPlace, HasSome, IsOpen, TakesPlace, TimedStanding}
+use Rattle.history_object.specs.Following.{EndsAtPlace, HasSome, IsOpen, IsRefutedOf, TakesPlace, TimedStanding}
 use Rattle.history_object.specs.ObjectBytes.{State, conflict, effect, reads}
-use Rattle.history_object.specs.Standings.{Begins, CanGoOn, CanPass, Ends, Event, HasPassed, Standing}
+use Rattle.history_object.specs.Standings.{Begins, CanGoOn, CanPass, Ends, Event, HasPassed, Standing, call_at}
+use Rattle.history_object.specs.declared.refutation.Refutation.{Refutation}
 use Rattle.history_object.proofs.Followed.{IsFollowedOn, IsFollowedToEnd, begin_is_followed, end_is_followed}
 use Rattle.history_object.proofs.Passing.{begin_passes}
+use Rattle.history_object.proofs.PlaceLists.{called_other}
 use Rattle.history_object.proofs.Swapping.{accesses_read, accesses_swap}
 use Rattle.history_parts.specs.declared.part.Part.{Part}
-use Rattle.history_parts.specs.Parts.{AreAside, AreFree, IsSameWhole, stores_of, whole}
+use Rattle.history_parts.specs.Parts.{AreAside, AreFree, HasParts, IsApartFromAll, IsRefutedBeside, IsSameWhole, stores_of, whole}
+use Rattle.history_parts.specs.Aside.{AreApart, IsApartFrom}
 use Rattle.history_parts.specs.Products.{AreSame, products}
 use Rattle.history_parts.proofs.Beside.{aside_left}
 use Rattle.history_parts.proofs.EndsAside.{EndsAs, ends_left, ends_pass, ends_products}
+use Rattle.history_parts.proofs.Lifted.{apart_ended}
 use Rattle.history_parts.proofs.Products.{kept_none, some_before, some_product}
 
 -- what the same configurations can pass
@@ -63,6 +68,37 @@ takes_follows number access old new takes =
 pub takes_some : (number : ℕ) (access : Access) (old new : TimedStanding State Access) → TakesPlace number access old new → HasSome effect old → HasSome effect new
 takes_some number access old new takes some = (some.0, subst (λ (kept : List (Configuration State)). IsKept kept some.0) (sym takes.kept) some.1, tt)
 
+-- the accesses that are apart from the stores stay so where one begins that is apart from them
+called_now : {C : Type 0} (xs : List (Option C)) (p : ℕ) (x y : C) → call_at (slice_set xs p (Some x)) p ≡ Some y → x ≡ y
+called_now [] p x y h = cc (h)
+called_now (z ∷ xs) zero x y h = cc (h)
+called_now (z ∷ xs) (suc p) x y h = called_now xs p x y h
+
+free_begun : (pending : List (Option Access)) (place : ℕ) (access : Access) (lists : List (List Access)) → AreFree pending lists → IsApartFromAll access lists
+    → AreFree (slice_set pending place (Some access)) lists
+free_begun pending place access lists free apart stores store is is_store q other there = elim (eqb_tells place q) [
+  | inl same ↦
+      let here = subst (λ (k : ℕ). call_at (slice_set pending place (Some access)) k ≡ Some other) (sym same.1) there in
+      subst (λ (a : Access). AreApart effect a store) (called_now pending place access other here) (apart stores store is is_store)
+  | inr another ↦ free stores store is is_store q other (sym (called_other pending place q (Some access) another.1) ∙ there)
+]
+
+-- the parts where an access begins, or can't begin
+pub parts_begun : {T E : Type 0} (result : Result T E) (number : ℕ) (access : Access) (old new : TimedStanding State Access) (parts : List Part) (called called' : Bool)
+    → OnOk result (TakesPlace number access old new) → OnErr result (new ≡ old)
+    → (called' ≡ false → (called ≡ false) × IsApartFromAll access (stores_of parts)) → HasParts old.standing parts called → HasParts new.standing parts called'
+parts_begun (Ok x) number access old new parts called called' takes unchanged quiet has = record {
+  aside = subst (λ (kept : List (Configuration State)). AreAside kept (stores_of parts)) (sym takes.kept) has.aside;
+  free = λ is.
+      let so = quiet is in
+      subst (λ (pending : List (Option Access)). AreFree pending (stores_of parts)) (sym takes.pending)
+      (free_begun old.standing.pending takes.place access (stores_of parts) (has.free so.0) so.1);
+}
+parts_begun (Err e) number access old new parts called called' takes unchanged quiet has = record {
+  aside = subst (λ (j : TimedStanding State Access). AreAside j.standing.kept (stores_of parts)) (sym unchanged) has.aside;
+  free = λ is. subst (λ (j : TimedStanding State Access). AreFree j.standing.pending (stores_of parts)) (sym unchanged) (has.free (quiet is).0);
+}
+
 -- ---- an access ends
 
 module _ (number : ℕ) (old joined left new : TimedStanding State Access) (parts beside parts' : List Part) (joins : IsSameWhole old joined parts beside)
@@ -74,6 +110,29 @@ module _ (number : ℕ) (old joined left new : TimedStanding State Access) (part
   -- the parts are beside the configurations that are left
   pub end_aside : AreAside left.standing.kept (stores_of beside)
   end_aside = aside_left joined.standing.pending ends.place joined.standing.kept left.standing.kept (stores_of beside) aside ends_so
+
+  -- no store of them conflicts with an access that stays pending
+  pub end_free : AreFree left.standing.pending (stores_of beside)
+  end_free stores store is is_store =
+      subst (λ (pending : List (Option Access)). IsApartFrom effect pending store) (sym ends.pending)
+      (apart_ended effect joined.standing.pending ends.place store (free stores store is is_store))
+
+  -- what was refuted at the end
+  pub end_refuted : {O : Type 0} (ended : Option (Refutation O State Access)) → IfSome ended (IsRefutedOf effect reads conflict joined number)
+      → IfSome ended (IsRefutedBeside (whole old parts) number)
+  end_refuted None refuted = tt
+  end_refuted (Some it) refuted =
+      let with_numbers = subst (λ (numbers : List (Option ℕ)). IsRefutedOf effect reads conflict (record { standing = joined.standing; numbers = numbers }) number it)
+      joins.numbers refuted in
+      record {
+        kept = joined.standing.kept;
+        lists = stores_of beside;
+        same = joins.kept;
+        aside = aside;
+        free = subst (λ (pending : List (Option Access)). AreFree pending (stores_of beside)) joins.pending free;
+        refuted = subst (λ (pending : List (Option Access)). IsRefutedOf effect reads conflict
+            (record { standing = record { pending = pending; kept = joined.standing.kept }; numbers = old.numbers }) number it) joins.pending with_numbers;
+      }
 
   module _ (sets : IsSameWhole left new beside parts') where
     passes : HasPassed effect (Ends ends.place) (whole old parts).standing (whole new parts').standing

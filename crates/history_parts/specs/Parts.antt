@@ -1,12 +1,14 @@
 -- The parts of an object that are set aside.
-use Rattle.std.specs.Prelude.{◌≡◌, List, Option, map}
+use Rattle.std.specs.Prelude.{◌≡◌, ℕ, Bool, false, List, Option, map}
 use Rattle.history_object.specs.declared.access.Access.{Access}
 use Rattle.history_object.specs.declared.configuration.Configuration.{Configuration}
 use Rattle.history_object.specs.Carried.{IsKept}
-use Rattle.history_object.specs.Following.{TimedStanding}
-use Rattle.history_object.specs.ObjectBytes.{State, effect}
+use Rattle.history_object.specs.Following.{IsRefutedOf, TimedStanding}
+use Rattle.history_object.specs.ObjectBytes.{State, conflict, effect, reads}
+use Rattle.history_object.specs.Standings.{Standing}
+use Rattle.history_object.specs.declared.refutation.Refutation.{Refutation}
 use Rattle.history_parts.specs.declared.part.Part.{Part}
-use Rattle.history_parts.specs.Aside.{AllApart, AllPossible, AllSteady, IsApartFrom, ListsApart}
+use Rattle.history_parts.specs.Aside.{AllApart, AllPossible, AllSteady, AreApart, IsApartFrom, ListsApart}
 use Rattle.history_parts.specs.Products.{AreSame, products}
 
 -- the stores of each part
@@ -41,3 +43,25 @@ pub record IsSameWhole (old new : TimedStanding State Access) (parts parts' : Li
   pub pending : new.standing.pending ≡ old.standing.pending
   pub numbers : new.numbers ≡ old.numbers
   pub kept : AreSame (products effect old.standing.kept (stores_of parts)) (products effect new.standing.kept (stores_of parts'))
+
+-- an access conflicts with no store of these lists
+abbrev pub IsApartFromAll : Access → List (List Access) → Type 0
+IsApartFromAll access lists = (stores : List Access) (store : Access) → IsKept lists stores → IsKept stores store → AreApart effect access store
+
+-- the parts are beside the configurations, and if no access has called one of them, no pending access conflicts with
+-- their stores
+pub record HasParts (standing : Standing State Access) (parts : List Part) (called : Bool) : Type 0 where
+  pub aside : AreAside standing.kept (stores_of parts)
+  pub free : called ≡ false → AreFree standing.pending (stores_of parts)
+
+-- the refutation has the access that was pending under this number, and the configurations that were met at its end. The
+-- judge's configurations are those that were kept then, after one store of each part; no pending access conflicts with a
+-- store of a part
+pub record IsRefutedBeside {O : Type 0} (old : TimedStanding State Access) (number : ℕ) (refutation : Refutation O State Access) : Type 0 where
+  pub kept : List (Configuration State)
+  pub lists : List (List Access)
+  pub same : AreSame old.standing.kept (products effect kept lists)
+  pub aside : AreAside kept lists
+  pub free : AreFree old.standing.pending lists
+  pub refuted : IsRefutedOf effect reads conflict (record { standing = record { pending = old.standing.pending; kept = kept }; numbers = old.numbers })
+      number refutation

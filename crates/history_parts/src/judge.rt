@@ -5,9 +5,10 @@ ghost use Rattle.history_object.specs.declared.faults.JudgeFault.{JudgeFault};
 ghost use Rattle.history_object.specs.Following.{CanBegin, HasSome, IsFull, IsJudgeOf, IsOpen, TakesPlace};
 ghost use Rattle.history_object.specs.ObjectBytes.{State, effect, first_state};
 ghost use Rattle.history_object.specs.TimedCalls.{Timed};
+ghost use Rattle.history_parts.specs.Parts.{IsRefutedBeside};
 
 use crate::part::Part;
-use crate::parts::{join, set_aside};
+use crate::parts::{calls, join, set_aside};
 use crate::split::range_of;
 use history_object::{Access, JudgeFault, ObjectAccesses, ObjectBytes, Refutation, TimedJudge};
 use std::alloc::{AllocError, Global};
@@ -18,19 +19,21 @@ use std::marker::Model;
 pub struct PartedJudge {
     judge: TimedJudge<ObjectAccesses>,
     parts: Vec<Part>,
+    // Whether an access that conflicts with a store of a part may be pending.
+    called: bool,
 }
 
 impl Model for PartedJudge {
     ghost use Rattle.history_object.specs.ObjectBytes.{State};
     ghost use Rattle.history_object.specs.Following.{TimedStanding};
     ghost use Rattle.history_object.specs.declared.access.Access.{Access as AnAccess};
-    ghost use Rattle.history_parts.specs.Parts.{AreAside, stores_of, whole};
+    ghost use Rattle.history_parts.specs.Parts.{HasParts, whole};
 
     ghost Value = { TimedStanding State AnAccess };
 
     ghost view = { λ j. whole j.judge j.parts.items };
 
-    ghost invariant = { λ j. AreAside j.judge.standing.kept (stores_of j.parts.items) };
+    ghost invariant = { λ j. HasParts j.judge.standing j.parts.items j.called };
 }
 
 impl PartedJudge {
@@ -42,7 +45,11 @@ impl PartedJudge {
     {
         let judge = TimedJudge::new(alloc, ObjectBytes::new(alloc, len))?;
         let parts = Vec::new(alloc);
-        Ok(PartedJudge { judge, parts })
+        Ok(PartedJudge {
+            judge,
+            parts,
+            called: false,
+        })
     }
 
     /// Records the start of an access, under a number that no pending access has.
@@ -62,7 +69,7 @@ impl PartedJudge {
         ensures taken { OnErr result (IsFull self.old) }
         ensures unchanged { OnErr result (self.new ≡ self.old) }
     {
-        let _parts = &self.parts;
+        self.called = calls(self.called, self.parts.as_slice(), &access);
         self.judge.begin(number, access)
     }
 
@@ -83,11 +90,15 @@ impl PartedJudge {
             → IsJudgeOf effect start calls self.new) }
         ensures open { OnOk result ((n : ℕ) → IsOpen self.new n ↔ (IsOpen self.old n × (n ≢ number))) }
         ensures some { IfOk result (λ ended. IsNone ended ↔ HasSome effect self.new) }
+        ensures refuted { IfOk result (λ ended. IfSome ended (IsRefutedBeside self.old number)) }
     {
-        join(alloc, &mut self.judge, &mut self.parts, most)?;
+        let called = self.called;
+        self.called = true;
+        join(alloc, &mut self.judge, &mut self.parts, called, most)?;
         let range = range_of(self.judge.call(number));
         let ended = self.judge.end(alloc, number, most)?;
         set_aside(alloc, &mut self.judge, &mut self.parts, range)?;
+        self.called = false;
         Ok(ended)
     }
 

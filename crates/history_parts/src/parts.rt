@@ -1,9 +1,9 @@
 //! How parts are set aside, and joined again.
-ghost use Rattle.std.specs.Prelude.{◌≡◌, ◌<◌, ◌≤◌, length, IsTrue, MatchOption, OnOk};
+ghost use Rattle.std.specs.Prelude.{◌≡◌, ◌<◌, ◌≤◌, false, length, IsTrue, MatchOption, OnOk};
 ghost use Rattle.history_object.specs.Carried.{IsKept};
 ghost use Rattle.history_object.specs.ObjectBytes.{effect};
 ghost use Rattle.history_object.specs.declared.access.Access.{Access as AnAccess};
-ghost use Rattle.history_parts.specs.Parts.{AreAside, AreBeside, AreFree, IsSameWhole, stores_of};
+ghost use Rattle.history_parts.specs.Parts.{AreAside, AreBeside, AreFree, IsApartFromAll, IsSameWhole, stores_of};
 ghost use Rattle.history_parts.specs.Aside.{AreApart, IsApartFrom, ListsApart};
 
 use crate::part::Part;
@@ -12,20 +12,41 @@ use crate::split::{Range, split_by};
 use history_object::{Access, Calls, JudgeFault, ObjectAccesses, TimedJudge};
 use std::alloc::{AllocError, Global};
 
-/// Joins the parts with whose stores a pending access conflicts to the configurations of the judge.
+/// Whether an access conflicts with a store of a part, or one was called before.
+pub fn calls(called: bool, parts: &[Part], access: &Access) -> bool
+    ensures { result ≡ false → (called ≡ false) × IsApartFromAll access.now (stores_of parts.now) }
+{
+    if called {
+        return true;
+    }
+    for part in parts {
+        if !is_apart_from(access, part.stores.as_slice()) {
+            return true;
+        }
+    }
+    false
+}
+
+/// Joins the parts with whose stores a pending access conflicts to the configurations of the judge. There is none if
+/// no part was called.
 ///
 /// The error is `TooMany` if there are then more than `most` configurations, and `Memory` if an allocation fails.
 pub fn join(
     alloc: Global,
     judge: &mut TimedJudge<ObjectAccesses>,
     parts: &mut Vec<Part>,
+    called: bool,
     most: usize,
 ) -> Result<(), JudgeFault>
-    requires { AreAside judge.old.standing.kept (stores_of parts.old.items) }
+    requires aside { AreAside judge.old.standing.kept (stores_of parts.old.items) }
+    requires free { called ≡ false → AreFree judge.old.standing.pending (stores_of parts.old.items) }
     ensures same { OnOk result (IsSameWhole judge.old judge.new parts.old.items parts.new.items) }
     ensures aside { AreAside judge.new.standing.kept (stores_of parts.new.items) }
     ensures free { OnOk result (AreFree judge.new.standing.pending (stores_of parts.new.items)) }
 {
+    if !called {
+        return Ok(());
+    }
     while let Some(place) = first_called(parts.as_slice(), judge.pending()) {
         let all = product(alloc, judge.kept(), parts[place].stores.as_slice(), most)?;
         judge.put_kept(all);
@@ -91,6 +112,8 @@ pub fn set_aside(
     requires aside { AreAside judge.old.standing.kept (stores_of parts.old.items) }
     ensures same { OnOk result (IsSameWhole judge.old judge.new parts.old.items parts.new.items) }
     ensures aside { AreAside judge.new.standing.kept (stores_of parts.new.items) }
+    ensures free { AreFree judge.old.standing.pending (stores_of parts.old.items)
+        → AreFree judge.new.standing.pending (stores_of parts.new.items) }
 {
     if judge.kept().len() < 2 || range.len == 0 {
         return Ok(());

@@ -29,3 +29,6 @@ pub returns-clause-free : goal.returns-clause-free
 returns-clause-free c =
     subst (λ (l : List (Option Access)). AreFree l (stores_of c.loop-place.parts.items)) c.pending.ensures
     (subst (λ (l : List Part). AreFree c.pending.result.now (stores_of l)) c.as_slice.ensures.value c.in_default.ensures)
+
+pub returns-then-not-called-clause-free : goal.returns-then-not-called-clause-free
+returns-then-not-called-clause-free c = c.requires.free c.if-not-called.true

@@ -1,10 +1,11 @@
-use Rattle.std.proofs.Common.{◌≡◌, ◌↔◌, ◌⊎◌, ℕ, Result, Ok, Err, OnOk, OnErr, subst}
+use Rattle.std.proofs.Common.{◌≡◌, ◌↔◌, ◌⊎◌, ℕ, List, false, Result, Ok, Err, OnOk, OnErr, subst}
 use Rattle.history_object.specs.declared.access.Access.{Access}
 use Rattle.history_object.specs.Following.{HasSome, IsFull, IsOpen, TakesPlace, TimedStanding}
 use Rattle.history_object.specs.ObjectBytes.{State, effect}
 use Rattle.history_object.proofs.Followed.{IsFollowedOn}
-use Rattle.history_parts.specs.Parts.{whole}
-use Rattle.history_parts.proofs.Whole.{takes_follows, takes_some, whole_begins}
+use Rattle.history_parts.specs.declared.part.Part.{Part}
+use Rattle.history_parts.specs.Parts.{IsApartFromAll, stores_of, whole}
+use Rattle.history_parts.proofs.Whole.{parts_begun, takes_follows, takes_some, whole_begins}
 use Rattle.history_parts.proofs.judge.PartedJudge.begin.Goals as goal
 
 on_ok : {T E : Type 0} (result : Result T E) (P Q : Type 0) → (P → Q) → OnOk result P → OnOk result Q
@@ -46,3 +47,11 @@ returns-clause-open c =
 pub returns-clause-taken : goal.returns-clause-taken
 returns-clause-taken c =
     on_err _ _ _ (λ (full : IsFull c.self.inside.judge). subst (λ (j : TimedStanding State Access). IsFull j) c.self.view_is full) c.begin.ensures.taken
+
+pub invariant_of-self : goal.invariant_of-self
+invariant_of-self c =
+    let called = c.calls-self-inside.result in
+    let quiet : called ≡ false → (c.self.inside.called ≡ false) × IsApartFromAll c.args.access (stores_of c.self.inside.parts.items) =
+    subst (λ (l : List Part). called ≡ false → (c.self.inside.called ≡ false) × IsApartFromAll c.args.access (stores_of l)) c.as_slice.ensures.value c.calls-self-inside.ensures in
+    parts_begun c.begin.result c.args.number c.args.access c.self.inside.judge c.begin.new.self c.self.inside.parts.items c.self.inside.called called
+    c.begin.ensures.place c.begin.ensures.unchanged quiet c.self.invariant

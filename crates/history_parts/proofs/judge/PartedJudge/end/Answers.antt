@@ -1,10 +1,11 @@
 use Rattle.std.proofs.Common.{◌≡◌, ◌≢◌, ◌↔◌, ℕ, List, subst}
+use Rattle.std.specs.Option.{IfSome}
 use Rattle.history_object.specs.declared.access.Access.{Access}
 use Rattle.history_object.specs.Following.{IsOpen, TimedStanding}
 use Rattle.history_object.specs.ObjectBytes.{State, effect}
 use Rattle.history_object.proofs.Followed.{IsFollowedToEnd}
-use Rattle.history_parts.specs.Parts.{whole}
-use Rattle.history_parts.proofs.Whole.{end_aside, end_follows, end_open, end_some}
+use Rattle.history_parts.specs.Parts.{IsRefutedBeside, whole}
+use Rattle.history_parts.proofs.Whole.{end_aside, end_follows, end_free, end_open, end_refuted, end_some}
 use Rattle.history_parts.proofs.judge.PartedJudge.end.Goals as goal
 
 pub set_aside-requires-clause-aside : goal.set_aside-requires-clause-aside
@@ -31,3 +32,20 @@ returns-clause-some c =
     c.set_aside.new.parts.items c.in_ok-join.ensures.same c.in_ok-join.ensures.aside c.in_ok-join.ensures.free c.in_ok-ended.ensures.place c.in_ok-set_aside.ensures.same in
     let ended = c.in_ok-ended.ensures.some in
     (λ none. on.0 (ended.0 none), λ some. ended.1 (on.1 some))
+
+pub returns-clause-refuted : goal.returns-clause-refuted
+returns-clause-refuted c =
+    subst (λ (j : TimedStanding State Access). IfSome c.in_ok-ended.ended (IsRefutedBeside j c.args.number)) c.self.view_is
+    (end_refuted c.args.number c.self.inside.judge c.join.new.judge c.end.new.self c.set_aside.new.judge c.self.inside.parts.items c.join.new.parts.items
+    c.set_aside.new.parts.items c.in_ok-join.ensures.same c.in_ok-join.ensures.aside c.in_ok-join.ensures.free c.in_ok-ended.ensures.place c.in_ok-ended.ended
+    c.in_ok-ended.ensures.refuted)
+
+pub invariant_of-self : goal.invariant_of-self
+invariant_of-self c = record { aside = c.in_err-join.ensures.aside; free = λ is. cc (is) }
+
+pub invariant_of-self-2 : goal.invariant_of-self-2
+invariant_of-self-2 c = record {
+  aside = c.set_aside.ensures.aside;
+  free = λ _. c.set_aside.ensures.free (end_free c.args.number c.self.inside.judge c.join.new.judge c.end.new.self c.set_aside.new.judge c.self.inside.parts.items
+      c.join.new.parts.items c.set_aside.new.parts.items c.in_ok-join.ensures.same c.in_ok-join.ensures.aside c.in_ok-join.ensures.free c.in_ok-ended.ensures.place);
+}
