@@ -1,17 +1,17 @@
 -- Parts that are joined to the configurations, and set aside.
-use Rattle.std.proofs.Common.{◌≡◌, ◌↔◌, ◌⊎◌, inl, inr, ℕ, zero, suc, List, [], ◌∷◌, ◌++◌, Option, Some, None, slice_get, take, drop, map, ap, refl, sym, subst, ◌∙◌}
+use Rattle.std.proofs.Common.{◌≡◌, ◌⊎◌, inl, inr, ℕ, zero, suc, List, [], ◌∷◌, ◌++◌, Option, Some, slice_get, take, drop, ap, sym, subst, ◌∙◌}
 use Rattle.std.proofs.lemmas.List.{append-nil, map-append}
 use Rattle.history_object.specs.declared.access.Access.{Access}
 use Rattle.history_object.specs.declared.configuration.Configuration.{Configuration}
 use Rattle.history_object.specs.Carried.{IsKept}
 use Rattle.history_object.specs.ObjectBytes.{State, effect}
 use Rattle.history_parts.specs.declared.part.Part.{Part}
-use Rattle.history_parts.specs.Aside.{AllApart, AllPossible, IsPossible, ListsApart}
+use Rattle.history_parts.specs.Aside.{AllApart, ListsApart}
 use Rattle.history_parts.specs.Parts.{AreAside, AreBeside, stores_of}
 use Rattle.history_parts.specs.Products.{AreSame, product, products}
 use Rattle.history_parts.specs.Splits.{IsSplit}
 use Rattle.history_parts.proofs.EndsAside.{EndsAs, possible_left}
-use Rattle.history_parts.proofs.Products.{AreWithin, kept_behind, kept_cases, kept_either, kept_first, kept_front, kept_later, kept_none, possible_product, products_first, products_within}
+use Rattle.history_parts.proofs.Products.{kept_behind, kept_cases, kept_either, kept_first, kept_front, kept_later, kept_none, possible_product, products_first, products_within}
 
 -- what is in a list with one left out is in the list
 kept_with : {X : Type 0} (xs : List X) (y : X) (ys : List X) (x : X) → IsKept (xs ++ ys) x → IsKept (xs ++ y ∷ ys) x

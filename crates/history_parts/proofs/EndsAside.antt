@@ -1,9 +1,9 @@
 -- The end of a call, with stores that are set aside.
-use Rattle.std.proofs.Common.{◌≡◌, ◌↔◌, ℕ, Bool, false, List, [], ◌∷◌, Option, Some, None, length, slice_set, ap, refl, sym, subst, ◌∙◌}
+use Rattle.std.proofs.Common.{◌≡◌, ℕ, Bool, false, List, [], ◌∷◌, Option, None, length, slice_set, ap, refl, sym, subst, ◌∙◌}
 use Rattle.history_object.specs.declared.configuration.Configuration.{Configuration}
 use Rattle.history_object.specs.Carried.{IsCarriedTo, IsKept}
 use Rattle.history_object.specs.Eager.{Serves}
-use Rattle.history_object.specs.Parts.{AreLeft, OthersMaySwap, part_at}
+use Rattle.history_object.specs.Parts.{AreLeft, OthersMaySwap}
 use Rattle.history_object.specs.Reads.{AreReads}
 use Rattle.history_object.specs.Standings.{CanPass, Ends, HasPassed, effect_at, forgot_at, had_effect}
 use Rattle.history_object.proofs.Inside.{inside_carried, inside_plainly}

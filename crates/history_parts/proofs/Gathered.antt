@@ -1,13 +1,13 @@
 -- Configurations that are gathered one by one.
-use Rattle.std.proofs.Common.{◌≡◌, ◌↔◌, ◌⊎◌, inl, inr, ℕ, ◌+◌, ◌<◌, ◌≤◌, List, [], ◌∷◌, ◌++◌, Option, Some, None, length, map, slice_get, ap, refl, sym, subst, ◌∙◌, arith}
+use Rattle.std.proofs.Common.{◌≡◌, ◌↔◌, ◌⊎◌, inl, inr, ℕ, ◌+◌, ◌<◌, ◌≤◌, List, [], ◌∷◌, Option, Some, None, length, slice_get, ap, sym, subst, ◌∙◌, arith}
 use Rattle.std.proofs.lemmas.Option.{slice_get_within}
-use Rattle.states_pool.specs.Pool.{HasTaken}
+use Rattle.states_pool.specs.Pool.{HasEachOnce, HasTaken}
 use Rattle.history_object.specs.declared.configuration.Configuration.{Configuration}
 use Rattle.history_object.specs.Carried.{IsKept}
 use Rattle.history_object.proofs.Copied.{IsBefore}
 use Rattle.history_object.proofs.Lists.{below_cases, get_front, get_grown}
-use Rattle.history_parts.specs.Products.{IsAfterOne, IsOfProduct, IsStored}
-use Rattle.history_parts.proofs.Products.{kept_none, same_both}
+use Rattle.history_parts.specs.Products.{HasMoreThan, IsAfterOne, IsOfProduct, IsStored, product}
+use Rattle.history_parts.proofs.Products.{kept_none, of_product, same_both}
 
 -- ---- before a place
 
@@ -141,4 +141,14 @@ pub product_all : {S C : Type 0} (effect : S → C → Option S) (kept : List (C
 product_all effect kept calls n all past was d = (
   λ is. let one = (was d).0 is in (one.0, one.1, before_kept kept n one.0 one.2, one.3, one.4),
   λ one. (was d).1 (one.0, one.1, before_all kept n one.0 past one.2, one.3, one.4),
+)
+
+-- different ones that were gathered, more than `most`
+pub more_of_front : {S C : Type 0} (effect : S → C → Option S) (kept : List (Configuration S)) (calls : List C) (n most : ℕ) (all : List (Configuration S))
+    → AreOfFront effect kept calls n all → HasEachOnce all → most < length all → HasMoreThan most (product effect kept calls)
+more_of_front effect kept calls n most all was once more = (
+  all,
+  once,
+  more,
+  λ d is. let one = (was d).0 is in of_product effect kept calls d one.0 one.1 (before_kept kept n one.0 one.2) one.3 one.4,
 )

@@ -2,15 +2,14 @@
 use Rattle.std.proofs.Common.{◌≡◌, ◌↔◌, ℕ, suc, List, [], ◌∷◌, ◌++◌, Some, slice_get, take, drop, ap, refl, sym, subst, ◌∙◌}
 use Rattle.model_intervals.specs.Objects.{ends_past}
 use Rattle.history_object.specs.declared.access.Access.{Access}
-use Rattle.history_object.specs.declared.access.Access.TheVariants.{Store}
 use Rattle.history_object.specs.declared.configuration.Configuration.{Configuration}
 use Rattle.history_object.specs.Carried.{IsKept}
 use Rattle.history_object.specs.Following.{TimedStanding}
 use Rattle.history_object.specs.ObjectBytes.{State, bytes_of, effect}
 use Rattle.history_parts.specs.declared.part.Part.{Part}
 use Rattle.history_parts.specs.Aside.{IsPossible, IsSteady}
-use Rattle.history_parts.specs.Parts.{AreAside, AreBeside, IsSameWhole, stores_of}
-use Rattle.history_parts.specs.Products.{AreSame, IsOfProduct, product, products}
+use Rattle.history_parts.specs.Parts.{AreAside, AreBeside, HasMoreJoined, IsSameWhole, stores_of}
+use Rattle.history_parts.specs.Products.{AreSame, HasMoreThan, IsOfProduct, product, products}
 use Rattle.history_parts.specs.Splits.{AreAfter, AreStoresTo, Fits, IsSplit}
 use Rattle.history_parts.proofs.Beside.{aside_joined, aside_more, stores_more, stores_out, stores_split}
 use Rattle.history_parts.proofs.Products.{in_product, of_product}
@@ -85,3 +84,26 @@ module _ (kept rest : List (Configuration State)) (stores : List Access) (off le
 
   pub split_so : AreSame kept (product effect rest stores) → (store : Access) × IsKept stores store → IsSplit kept rest stores
   split_so same some = record { same = same; after = after; steady = steady_so; possible = possible_so; some = some }
+
+-- ---- too many configurations
+
+-- a list has more where another one has the same elements
+pub more_same : {X : Type 0} (most : ℕ) (xs ys : List X) → ((x : X) → IsKept xs x → IsKept ys x) → HasMoreThan most xs → HasMoreThan most ys
+more_same most xs ys within more = (more.0, more.1, more.2, λ x is. within x (more.3 x is))
+
+-- a part can't be joined, since there would be more than `most` configurations
+pub more_joined : (old judge : TimedStanding State Access) (first parts : List Part) (place most : ℕ) (part : Part)
+    → slice_get parts place ≡ Some part → HasMoreThan most (product effect judge.standing.kept part.stores.items)
+    → IsSameWhole old judge first parts → AreAside judge.standing.kept (stores_of parts)
+    → HasMoreJoined (products effect old.standing.kept (stores_of first)) most
+more_joined old judge first parts place most part at many was aside =
+    let joined = product effect judge.standing.kept part.stores.items in
+    let then' : TimedStanding State Access = record { standing = record { pending = judge.standing.pending; kept = joined }; numbers = judge.numbers } in
+    let on = part_joined old judge then' first parts (take place parts ++ drop (suc place) parts) place part at refl refl refl (λ d. (λ is. is, λ is. is)) was aside in
+    record {
+      kept = joined;
+      lists = stores_of (take place parts ++ drop (suc place) parts);
+      same = on.0.kept;
+      aside = on.1;
+      many = many;
+    }

@@ -1,5 +1,5 @@
 -- Effects of pending calls before and after a store that is set aside.
-use Rattle.std.proofs.Common.{◌≡◌, ◌≢◌, ◌↔◌, ◌⊎◌, inl, inr, ℕ, zero, suc, Bool, true, false, List, [], ◌∷◌, Option, Some, None, length, slice_index_or, slice_set, ap, refl, sym, subst, ◌∙◌, arith}
+use Rattle.std.proofs.Common.{◌≡◌, ◌↔◌, inl, inr, ℕ, zero, suc, Bool, true, false, List, [], ◌∷◌, Option, Some, None, length, slice_index_or, slice_set, ap, refl, sym, subst, ◌∙◌}
 use Rattle.std.proofs.lemmas.Bool.Decides.{eqb_tells}
 use Rattle.history_object.specs.declared.configuration.Configuration.{Configuration}
 use Rattle.history_object.specs.Carried.{IsCarriedTo, IsReachable, carry}
@@ -7,7 +7,7 @@ use Rattle.history_object.specs.Eager.{Covers}
 use Rattle.history_object.specs.Standings.{call_at, effect_at, forgot_at, had_effect}
 use Rattle.history_object.proofs.Lists.{tells}
 use Rattle.history_object.proofs.PlaceLists.{called_other}
-use Rattle.history_object.proofs.Leading.{Leads, Step, leads_of, of_leads, of_step, reached, step_of}
+use Rattle.history_object.proofs.Leading.{Leads, Step, leads_of, of_step, step_of}
 use Rattle.history_object.proofs.Serving.{carry_below, carry_leads}
 use Rattle.history_parts.specs.Products.{IsStored}
 use Rattle.history_parts.specs.Aside.{IsApartFrom, IsPossible, IsSteady}

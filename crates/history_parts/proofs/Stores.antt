@@ -1,5 +1,5 @@
 -- Stores can have their effects in any state of an object, if they can have them in one.
-use Rattle.std.proofs.Common.{◌≡◌, ◌↔◌, inl, inr, ℕ, ◌+◌, ◌<◌, ◌≤◌, Bool, true, false, nat_lt, List, Option, Some, None, length, if◌then◌else◌, ap, refl, sym, subst, ◌∙◌, arith}
+use Rattle.std.proofs.Common.{◌≡◌, inl, inr, ℕ, ◌+◌, ◌≤◌, Bool, true, false, nat_lt, List, Some, None, length, if◌then◌else◌, ap, refl, sym, ◌∙◌, arith}
 use Rattle.arrayvec.specs.ArrayVec.{ArrayVec}
 use Rattle.model_intervals.specs.Objects.{ends_past}
 use Rattle.history_object.specs.declared.access.Access.{Access}

@@ -1,20 +1,20 @@
 -- The judge of a whole object, by that of the object without the parts that are set aside.
-use Rattle.std.proofs.Common.{◌≡◌, ◌≢◌, ◌↔◌, ◌⊎◌, inl, inr, ℕ, zero, suc, Bool, false, List, [], ◌∷◌, ◌++◌, Option, Some, None, Result, Ok, Err, OnOk, OnErr, slice_get, slice_set, ap, refl, sym, subst, ◌∙◌}
+use Rattle.std.proofs.Common.{◌≡◌, ◌≢◌, ◌↔◌, inl, inr, ℕ, zero, suc, Bool, false, List, [], ◌∷◌, Option, Some, None, Result, Ok, Err, OnOk, OnErr, slice_get, slice_set, ap, sym, subst, ◌∙◌}
 use Rattle.std.specs.Option.{IfSome}
 use Rattle.std.proofs.lemmas.Bool.Decides.{eqb_tells}
 use Rattle.history_object.specs.declared.access.Access.{Access}
 use Rattle.history_object.specs.declared.configuration.Configuration.{Configuration}
 use Rattle.history_object.specs.Carried.{IsKept}
-use Rattle.history_object.specs.Following.{EndsAtPlace, HasSome, IsOpen, IsRefutedOf, TakesPlace, TimedStanding}
+use Rattle.history_object.specs.Following.{EndsAtPlace, HasMoreAtEnd, HasSome, IsOpen, IsRefutedOf, TakesPlace, TimedStanding}
 use Rattle.history_object.specs.ObjectBytes.{State, conflict, effect, reads}
-use Rattle.history_object.specs.Standings.{Begins, CanGoOn, CanPass, Ends, Event, HasPassed, Standing, call_at}
+use Rattle.history_object.specs.Standings.{Begins, CanGoOn, CanPass, Ends, Event, HasPassed, call_at}
 use Rattle.history_object.specs.declared.refutation.Refutation.{Refutation}
 use Rattle.history_object.proofs.Followed.{IsFollowedOn, IsFollowedToEnd, begin_is_followed, end_is_followed}
 use Rattle.history_object.proofs.Passing.{begin_passes}
 use Rattle.history_object.proofs.PlaceLists.{called_other}
 use Rattle.history_object.proofs.Swapping.{accesses_read, accesses_swap}
 use Rattle.history_parts.specs.declared.part.Part.{Part}
-use Rattle.history_parts.specs.Parts.{AreAside, AreFree, HasParts, IsApartFromAll, IsRefutedBeside, IsSameWhole, stores_of, whole}
+use Rattle.history_parts.specs.Parts.{AreAside, AreFree, HasMoreBeside, HasParts, IsApartFromAll, IsRefutedBeside, IsSameWhole, stores_of, whole}
 use Rattle.history_parts.specs.Aside.{AreApart, IsApartFrom}
 use Rattle.history_parts.specs.Products.{AreSame, products}
 use Rattle.history_parts.proofs.Beside.{aside_left}
@@ -175,3 +175,20 @@ module _ (number : ℕ) (old joined left new : TimedStanding State Access) (part
           let one = some_before effect left.standing.kept (stores_of beside) (some.0, (sets.kept some.0).1 some.1) in
           (one.0, one.1, tt),
     )
+
+-- more configurations are met at the end than are allowed
+pub more_beside : (number most : ℕ) (old joined : TimedStanding State Access) (parts beside : List Part) → IsSameWhole old joined parts beside
+    → AreAside joined.standing.kept (stores_of beside) → AreFree joined.standing.pending (stores_of beside)
+    → HasMoreAtEnd effect reads conflict joined number most → HasMoreBeside (whole old parts) number most
+more_beside number most old joined parts beside joins aside free many =
+    let with_numbers = subst (λ (numbers : List (Option ℕ)). HasMoreAtEnd effect reads conflict (record { standing = joined.standing; numbers = numbers }) number most)
+    joins.numbers many in
+    record {
+      kept = joined.standing.kept;
+      lists = stores_of beside;
+      same = joins.kept;
+      aside = aside;
+      free = subst (λ (pending : List (Option Access)). AreFree pending (stores_of beside)) joins.pending free;
+      many = subst (λ (pending : List (Option Access)). HasMoreAtEnd effect reads conflict
+          (record { standing = record { pending = pending; kept = joined.standing.kept }; numbers = old.numbers }) number most) joins.pending with_numbers;
+    }

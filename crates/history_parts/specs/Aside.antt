@@ -1,5 +1,5 @@
 -- Stores that are set aside: what makes their effects independent of pending calls and of one another.
-use Rattle.std.specs.Prelude.{◌≡◌, ◌↔◌, ℕ, false, List, [], ◌∷◌, Option, Some, None, map}
+use Rattle.std.specs.Prelude.{◌≡◌, ◌↔◌, ℕ, List, [], ◌∷◌, Option, Some}
 use Rattle.history_object.specs.declared.configuration.Configuration.{Configuration}
 use Rattle.history_object.specs.Carried.{IsKept}
 use Rattle.history_object.specs.Parts.{MaySwap}

@@ -3,13 +3,13 @@ use Rattle.std.specs.Prelude.{◌≡◌, ℕ, Bool, false, List, Option, map}
 use Rattle.history_object.specs.declared.access.Access.{Access}
 use Rattle.history_object.specs.declared.configuration.Configuration.{Configuration}
 use Rattle.history_object.specs.Carried.{IsKept}
-use Rattle.history_object.specs.Following.{IsRefutedOf, TimedStanding}
+use Rattle.history_object.specs.Following.{HasMoreAtEnd, IsRefutedOf, TimedStanding}
 use Rattle.history_object.specs.ObjectBytes.{State, conflict, effect, reads}
 use Rattle.history_object.specs.Standings.{Standing}
 use Rattle.history_object.specs.declared.refutation.Refutation.{Refutation}
 use Rattle.history_parts.specs.declared.part.Part.{Part}
 use Rattle.history_parts.specs.Aside.{AllApart, AllPossible, AllSteady, AreApart, IsApartFrom, ListsApart}
-use Rattle.history_parts.specs.Products.{AreSame, products}
+use Rattle.history_parts.specs.Products.{AreSame, HasMoreThan, products}
 
 -- the stores of each part
 abbrev pub stores_of : List Part → List (List Access)
@@ -65,3 +65,21 @@ pub record IsRefutedBeside {O : Type 0} (old : TimedStanding State Access) (numb
   pub free : AreFree old.standing.pending lists
   pub refuted : IsRefutedOf effect reads conflict (record { standing = record { pending = old.standing.pending; kept = kept }; numbers = old.numbers })
       number refutation
+
+-- after some parts were joined, more than `most` configurations are kept beside the other parts
+pub record HasMoreJoined (old : List (Configuration State)) (most : ℕ) : Type 0 where
+  pub kept : List (Configuration State)
+  pub lists : List (List Access)
+  pub same : AreSame old (products effect kept lists)
+  pub aside : AreAside kept lists
+  pub many : HasMoreThan most kept
+
+-- more than `most` configurations are met at the end of the access with this number, beside the parts with which no
+-- pending access conflicts
+pub record HasMoreBeside (old : TimedStanding State Access) (number most : ℕ) : Type 0 where
+  pub kept : List (Configuration State)
+  pub lists : List (List Access)
+  pub same : AreSame old.standing.kept (products effect kept lists)
+  pub aside : AreAside kept lists
+  pub free : AreFree old.standing.pending lists
+  pub many : HasMoreAtEnd effect reads conflict (record { standing = record { pending = old.standing.pending; kept = kept }; numbers = old.numbers }) number most

@@ -1,6 +1,7 @@
 -- The configurations to which stores lead. Each part of an object that is set aside is a list of stores, of which one
 -- has its effect.
-use Rattle.std.specs.Prelude.{◌≡◌, ◌↔◌, ℕ, List, [], ◌∷◌, ◌++◌, Option, Some, None}
+use Rattle.std.specs.Prelude.{◌≡◌, ◌↔◌, ℕ, ◌<◌, List, [], ◌∷◌, ◌++◌, Option, Some, None, length}
+use Rattle.states_pool.specs.Pool.{HasEachOnce}
 use Rattle.history_object.specs.declared.configuration.Configuration.{Configuration}
 use Rattle.history_object.specs.Carried.{IsKept}
 use Rattle.history_object.specs.Standings.{with_marks}
@@ -40,3 +41,7 @@ IsOfProduct {S} {C} effect kept calls d = (c : Configuration S) × (call : C) ×
 -- the two lists have the same configurations
 abbrev pub AreSame : {X : Type 0} → List X → List X → Type 0
 AreSame {X} xs ys = (x : X) → IsKept xs x ↔ IsKept ys x
+
+-- the list has more than `most` different elements
+abbrev pub HasMoreThan : {X : Type 0} → ℕ → List X → Type 0
+HasMoreThan {X} most xs = (some : List X) × HasEachOnce some × (most < length some) × ((x : X) → IsKept some x → IsKept xs x)

@@ -5,7 +5,7 @@ ghost use Rattle.history_object.specs.declared.faults.JudgeFault.{JudgeFault};
 ghost use Rattle.history_object.specs.Following.{CanBegin, HasSome, IsFull, IsJudgeOf, IsOpen, TakesPlace};
 ghost use Rattle.history_object.specs.ObjectBytes.{State, effect, first_state};
 ghost use Rattle.history_object.specs.TimedCalls.{Timed};
-ghost use Rattle.history_parts.specs.Parts.{IsRefutedBeside};
+ghost use Rattle.history_parts.specs.Parts.{HasMoreBeside, HasMoreJoined, IsRefutedBeside};
 
 use crate::part::Part;
 use crate::parts::{calls, join, set_aside};
@@ -76,8 +76,8 @@ impl PartedJudge {
     /// Records the end of the pending access with this number, and forgets the access. Returns `None` if some
     /// configuration is left. Otherwise returns why none is left.
     ///
-    /// The error is `TooMany` if more than `most` configurations are met beside the parts that stay aside, and `Memory`
-    /// if an allocation fails.
+    /// The error is `TooMany` if more than `most` configurations are met beside the parts that stay aside, or are kept as
+    /// parts are joined. It is `Memory` if an allocation fails.
     pub fn end(
         &mut self,
         alloc: Global,
@@ -91,6 +91,8 @@ impl PartedJudge {
         ensures open { OnOk result ((n : ℕ) → IsOpen self.new n ↔ (IsOpen self.old n × (n ≢ number))) }
         ensures some { IfOk result (λ ended. IsNone ended ↔ HasSome effect self.new) }
         ensures refuted { IfOk result (λ ended. IfSome ended (IsRefutedBeside self.old number)) }
+        ensures many { result ≡ Err JudgeFault.TooMany
+            → HasMoreJoined self.old.standing.kept most ⊎ HasMoreBeside self.old number most }
     {
         let called = self.called;
         self.called = true;

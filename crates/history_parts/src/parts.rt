@@ -1,9 +1,11 @@
 //! How parts are set aside, and joined again.
-ghost use Rattle.std.specs.Prelude.{◌≡◌, ◌<◌, ◌≤◌, false, length, IsTrue, MatchOption, OnOk};
+ghost use Rattle.std.specs.Prelude.{◌≡◌, ◌<◌, ◌≤◌, Err, false, length, IsTrue, MatchOption, OnOk};
 ghost use Rattle.history_object.specs.Carried.{IsKept};
 ghost use Rattle.history_object.specs.ObjectBytes.{effect};
 ghost use Rattle.history_object.specs.declared.access.Access.{Access as AnAccess};
-ghost use Rattle.history_parts.specs.Parts.{AreAside, AreBeside, AreFree, IsApartFromAll, IsSameWhole, stores_of};
+ghost use Rattle.history_parts.specs.Parts.{AreAside, AreBeside, AreFree, HasMoreJoined, IsApartFromAll, IsSameWhole, stores_of};
+ghost use Rattle.history_object.specs.declared.faults.JudgeFault.{JudgeFault};
+ghost use Rattle.history_parts.specs.Products.{products};
 ghost use Rattle.history_parts.specs.Aside.{AreApart, IsApartFrom, ListsApart};
 
 use crate::part::Part;
@@ -43,6 +45,8 @@ pub fn join(
     ensures same { OnOk result (IsSameWhole judge.old judge.new parts.old.items parts.new.items) }
     ensures aside { AreAside judge.new.standing.kept (stores_of parts.new.items) }
     ensures free { OnOk result (AreFree judge.new.standing.pending (stores_of parts.new.items)) }
+    ensures many { result ≡ Err JudgeFault.TooMany
+        → HasMoreJoined (products effect judge.old.standing.kept (stores_of parts.old.items)) most }
 {
     if !called {
         return Ok(());

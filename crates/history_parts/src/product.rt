@@ -1,9 +1,10 @@
 //! The configurations to which stores lead.
-ghost use Rattle.std.specs.Prelude.{◌≡◌, ◌↔◌, ◌⊎◌, IfOk, OnOk};
+ghost use Rattle.std.specs.Prelude.{◌≡◌, ◌↔◌, ◌⊎◌, Err, IfOk, OnOk};
 ghost use Rattle.history_object.specs.Carried.{IsKept};
 ghost use Rattle.history_object.specs.ObjectBytes.{State, effect};
 ghost use Rattle.history_object.specs.declared.configuration.Configuration.{Configuration};
-ghost use Rattle.history_parts.specs.Products.{IsAfterOne, IsOfProduct, IsStored};
+ghost use Rattle.history_parts.specs.Products.{HasMoreThan, IsAfterOne, IsOfProduct, IsStored, product};
+ghost use Rattle.history_object.specs.declared.faults.JudgeFault.{JudgeFault};
 
 use history_object::{Access, Calls, Configuration, JudgeFault, ObjectAccesses, ObjectBytes};
 use states_pool::Pool;
@@ -18,13 +19,15 @@ pub fn product(
     stores: &[Access],
     most: usize,
 ) -> Result<Pool<Configuration<ObjectBytes>>, JudgeFault>
-    ensures { IfOk result
+    ensures all { IfOk result
         (λ all. (d : Configuration State) → IsKept all d ↔ IsOfProduct effect kept.now stores.now d) }
+    ensures many { result ≡ Err JudgeFault.TooMany → HasMoreThan most (product effect kept.now stores.now) }
 {
     let mut all = Pool::new(alloc);
     for place in 0..kept.len() {
         add_after_each(alloc, kept.get(place as u32), stores, &mut all)?;
         if all.len() > most {
+            all.distinct();
             return Err(JudgeFault::TooMany);
         }
     }

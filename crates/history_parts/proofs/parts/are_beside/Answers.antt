@@ -1,8 +1,7 @@
-use Rattle.std.proofs.Common.{List, length, refl, sym, subst}
+use Rattle.std.proofs.Common.{List, length, refl, subst}
 use Rattle.std.proofs.lemmas.Option.{slice_get_read}
 use Rattle.history_object.specs.declared.access.Access.{Access}
 use Rattle.history_parts.specs.declared.part.Part.{Part}
-use Rattle.history_object.specs.Carried.{IsKept}
 use Rattle.history_object.specs.ObjectBytes.{effect}
 use Rattle.history_parts.specs.Aside.{ListsApart}
 use Rattle.history_parts.proofs.Fronts.{of_all, one_more, part_with}

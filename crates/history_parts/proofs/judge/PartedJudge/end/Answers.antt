@@ -1,11 +1,12 @@
-use Rattle.std.proofs.Common.{◌≡◌, ◌≢◌, ◌↔◌, ℕ, List, subst}
+use Rattle.std.proofs.Common.{◌≢◌, ◌↔◌, inl, inr, ℕ, Err, ap, subst}
 use Rattle.std.specs.Option.{IfSome}
 use Rattle.history_object.specs.declared.access.Access.{Access}
 use Rattle.history_object.specs.Following.{IsOpen, TimedStanding}
 use Rattle.history_object.specs.ObjectBytes.{State, effect}
+use Rattle.history_object.proofs.Found.{returned}
 use Rattle.history_object.proofs.Followed.{IsFollowedToEnd}
-use Rattle.history_parts.specs.Parts.{IsRefutedBeside, whole}
-use Rattle.history_parts.proofs.Whole.{end_aside, end_follows, end_free, end_open, end_refuted, end_some}
+use Rattle.history_parts.specs.Parts.{HasMoreBeside, HasMoreJoined, IsRefutedBeside, whole}
+use Rattle.history_parts.proofs.Whole.{end_aside, end_follows, end_free, end_open, end_refuted, end_some, more_beside}
 use Rattle.history_parts.proofs.judge.PartedJudge.end.Goals as goal
 
 pub set_aside-requires-clause-aside : goal.set_aside-requires-clause-aside
@@ -49,3 +50,15 @@ invariant_of-self-2 c = record {
   free = λ _. c.set_aside.ensures.free (end_free c.args.number c.self.inside.judge c.join.new.judge c.end.new.self c.set_aside.new.judge c.self.inside.parts.items
       c.join.new.parts.items c.set_aside.new.parts.items c.in_ok-join.ensures.same c.in_ok-join.ensures.aside c.in_ok-join.ensures.free c.in_ok-ended.ensures.place);
 }
+
+pub returns-in_err-join-clause-many : goal.returns-in_err-join-clause-many
+returns-in_err-join-clause-many c = λ is.
+    let fault = ap (λ e. Err e) (returned _ _ _ c.from_residual.ensures.1 is) in
+    inl (subst (λ (j : TimedStanding State Access). HasMoreJoined j.standing.kept c.args.most) c.self.view_is (c.in_err-join.ensures.many fault))
+
+pub returns-in_err-ended-clause-many : goal.returns-in_err-ended-clause-many
+returns-in_err-ended-clause-many c = λ is.
+    let fault = ap (λ e. Err e) (returned _ _ _ c.from_residual-in_err-ended.ensures.1 is) in
+    inr (subst (λ (j : TimedStanding State Access). HasMoreBeside j c.args.number c.args.most) c.self.view_is
+    (more_beside c.args.number c.args.most c.self.inside.judge c.join.new.judge c.self.inside.parts.items c.join.new.parts.items c.in_ok-join.ensures.same
+    c.in_ok-join.ensures.aside c.in_ok-join.ensures.free (c.in_err-ended.ensures.many fault)))
