@@ -22,8 +22,8 @@ whole judge parts = record {
   numbers = judge.numbers;
 }
 
--- parts beside these configurations: their effects may be in any order, each has some store, and each store can have its
--- effect in each configuration, whatever other effects there are
+-- parts beside these configurations: their effects may be in any order, each has some store, and each store can have
+-- its effect in each configuration, whatever other effects there are
 pub record AreAside (kept : List (Configuration State)) (lists : List (List Access)) : Type 0 where
   pub apart : AllApart effect lists
   pub steady : AllSteady effect lists
@@ -54,9 +54,9 @@ pub record HasParts (standing : Standing State Access) (parts : List Part) (call
   pub aside : AreAside standing.kept (stores_of parts)
   pub free : called ≡ false → AreFree standing.pending (stores_of parts)
 
--- the refutation has the access that was pending under this number, and the configurations that were met at its end. The
--- judge's configurations are those that were kept then, after one store of each part; no pending access conflicts with a
--- store of a part
+-- the refutation has the access that was pending under this number, and the configurations that were met at its end.
+-- The judge's configurations are those that were kept then, after one store of each part; no pending access conflicts
+-- with a store of a part
 pub record IsRefutedBeside {O : Type 0} (old : TimedStanding State Access) (number : ℕ) (refutation : Refutation O State Access) : Type 0 where
   pub kept : List (Configuration State)
   pub lists : List (List Access)

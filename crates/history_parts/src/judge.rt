@@ -76,8 +76,8 @@ impl PartedJudge {
     /// Records the end of the pending access with this number, and forgets the access. Returns `None` if some
     /// configuration is left. Otherwise returns why none is left.
     ///
-    /// The error is `TooMany` if more than `most` configurations are met beside the parts that stay aside, or are kept as
-    /// parts are joined. It is `Memory` if an allocation fails.
+    /// The error is `TooMany` if more than `most` configurations are met beside the parts that stay aside, or are kept
+    /// as parts are joined. It is `Memory` if an allocation fails.
     pub fn end(
         &mut self,
         alloc: Global,
