@@ -10,7 +10,7 @@ ghost use Rattle.history_parts.specs.Aside.{AreApart, IsApartFrom, ListsApart};
 
 use crate::part::Part;
 use crate::product::product;
-use crate::split::{Range, split_by};
+use crate::split::{Range, range_of, split_by};
 use history_object::{Access, Calls, JudgeFault, ObjectAccesses, TimedJudge};
 use std::alloc::{AllocError, Global};
 
@@ -119,7 +119,7 @@ pub fn set_aside(
     ensures free { AreFree judge.old.standing.pending (stores_of parts.old.items)
         → AreFree judge.new.standing.pending (stores_of parts.new.items) }
 {
-    if judge.kept().len() < 2 || range.len == 0 {
+    if judge.kept().len() < 2 || range.len == 0 || is_touched(range, judge.pending()) {
         return Ok(());
     }
     let Some(split) = split_by(alloc, judge.kept(), range)? else {
@@ -135,6 +135,28 @@ pub fn set_aside(
     })?;
     judge.put_kept(split.rest);
     Ok(())
+}
+
+/// Whether a pending access reads or changes a byte of a range. Then a split of the range would be in vain.
+fn is_touched(range: Range, pending: &[Option<Access>]) -> bool {
+    for call in pending {
+        if let Some(access) = call
+            && meet(range, range_of(access))
+        {
+            return true;
+        }
+    }
+    false
+}
+
+/// Whether two ranges have a byte in common.
+fn meet(one: Range, other: Range) -> bool {
+    let (first, second) = if one.off <= other.off {
+        (one, other)
+    } else {
+        (other, one)
+    };
+    second.len > 0 && second.off - first.off < u64::from(first.len)
 }
 
 /// Whether none of the stores conflicts with a store of a part.

@@ -43,8 +43,8 @@ returns-clause-free c = λ free more store is is_store.
     let lists : stores_of c.push.new.self.items ≡ stores_of c.args.parts.now.items ++ stores ∷ [] =
     ap (λ (l : List Part). stores_of l) c.in_ok-push.ensures.items ∙ stores_more c.args.parts.now.items part in
     let own : (store : Access) → IsKept stores store → IsApartFrom effect pending store =
-    subst (λ (l : List (Option Access)). (store : Access) → IsKept stores store → IsApartFrom effect l store) c.pending.ensures
-    (subst (λ (l : List Access). (store : Access) → IsKept l store → IsApartFrom effect c.pending.result.now store) c.as_slice.ensures.value (c.if-not-are_free.ensures refl)) in
+    subst (λ (l : List (Option Access)). (store : Access) → IsKept stores store → IsApartFrom effect l store) c.pending-2.ensures
+    (subst (λ (l : List Access). (store : Access) → IsKept l store → IsApartFrom effect c.pending-2.result.now store) c.as_slice.ensures.value (c.if-not-are_free.ensures refl)) in
     let at = subst (λ (l : List (List Access)). IsKept l more) lists is in
     subst (λ (l : List (Option Access)). IsApartFrom effect l store) (sym c.put_kept.ensures.pending)
     (elim (last_or (stores_of c.args.parts.now.items) stores more at) [
