@@ -1,0 +1,196 @@
+//! The judge of parts, compared with the timed judge of the whole object.
+ghost use Rattle.std.specs.Prelude.{◌<◌};
+
+use arrayvec::ArrayVec;
+use history_object::{Access, ObjectAccesses, ObjectBytes, TimedJudge};
+use history_parts::PartedJudge;
+use model_words::MAX_BYTES;
+use std::alloc::Global;
+
+/// The number of bytes of the object.
+const LEN: usize = 6;
+
+/// The number of accesses that may be pending at once.
+const THREADS: usize = 4;
+
+/// Pseudorandom numbers.
+#[derive(Drop)]
+struct Source {
+    state: u64,
+}
+
+impl Source {
+    /// Returns the next number below `below`.
+    fn next(&mut self, below: u64) -> u64
+        requires { 0 < below }
+        ensures { result < below }
+    {
+        self.state ^= self.state << 13;
+        self.state ^= self.state >> 7;
+        self.state ^= self.state << 17;
+        (self.state >> 8) % below
+    }
+}
+
+/// Returns up to 32 of these bytes.
+fn some(bytes: &[u8]) -> ArrayVec<u8, MAX_BYTES> {
+    let mut taken = ArrayVec::new();
+    for byte in bytes {
+        let _full = taken.try_push(*byte);
+    }
+    taken
+}
+
+/// Returns a store of one byte.
+fn store(off: u64, byte: u8) -> Access {
+    Access::Store(off, some(&[byte]))
+}
+
+/// Returns a load of one byte.
+fn load(off: u64, byte: u8) -> Access {
+    Access::Load(off, 1, some(&[byte]))
+}
+
+/// The two judges, and the bytes if each access has its effect as it begins.
+#[derive(Drop)]
+struct Pair {
+    whole: TimedJudge<ObjectAccesses>,
+    parted: PartedJudge,
+    bytes: [u8; LEN],
+    open: [Option<u32>; THREADS],
+    begun: u32,
+}
+
+/// Begins a random access in both judges, which has its effect in the bytes at once. One of 40 loaded bytes is another
+/// one.
+fn begin(pair: &mut Pair, source: &mut Source, thread: usize) -> Option<()> {
+    let len = 1 + source.next(2) as usize;
+    let off = source.next(LEN as u64 - 1) as usize;
+    let stores = source.next(3) > 0;
+    let mut told = ArrayVec::new();
+    for byte in pair.bytes[off..off + len].iter_mut() {
+        if stores {
+            *byte = source.next(3) as u8;
+        }
+        let wrong = !stores && source.next(40) == 0;
+        let _full = told.try_push(*byte ^ wrong as u8);
+    }
+    let access = if stores {
+        Access::Store(off as u64, told)
+    } else {
+        Access::Load(off as u64, len as u32, told)
+    };
+    let number = pair.begun;
+    pair.begun = number.wrapping_add(1);
+    if pair.whole.is_open(number) || pair.parted.is_open(number) {
+        return None;
+    }
+    let copy = access.clone().ok()?;
+    pair.whole.begin(number, copy).ok()?;
+    pair.parted.begin(number, access).ok()?;
+    pair.open[thread] = Some(number);
+    Some(())
+}
+
+/// Ends an access in both judges. Returns whether the two judges explain it.
+fn end(alloc: Global, pair: &mut Pair, number: u32) -> Option<(bool, bool)> {
+    if !pair.whole.is_open(number) || !pair.parted.is_open(number) {
+        return None;
+    }
+    let whole = pair.whole.end(alloc, number, 100_000).ok()?.is_none();
+    let parted = pair.parted.end(alloc, number, 100_000).ok()?.is_none();
+    Some((whole, parted))
+}
+
+/// Judges a random history of `steps` events. Returns whether the last access was explained. Returns `None` if the two
+/// judges differ, or one of them fails.
+fn judged(alloc: Global, seed: u64, steps: u32) -> Option<bool> {
+    let mut source = Source { state: seed };
+    let mut pair = Pair {
+        whole: TimedJudge::new(alloc, ObjectBytes::new(alloc, LEN as u64)).ok()?,
+        parted: PartedJudge::new(alloc, LEN as u64).ok()?,
+        bytes: [0; LEN],
+        open: [None; THREADS],
+        begun: 0,
+    };
+    for _step in 0..steps {
+        let thread = source.next(THREADS as u64) as usize;
+        let Some(number) = pair.open[thread] else {
+            begin(&mut pair, &mut source, thread)?;
+            continue;
+        };
+        pair.open[thread] = None;
+        let (whole, parted) = end(alloc, &mut pair, number)?;
+        if whole != parted {
+            return None;
+        }
+        if !whole {
+            return Some(false);
+        }
+    }
+    Some(true)
+}
+
+#[test]
+fn judges_agree_on_random_histories(rt: HostRuntime) {
+    let mut explained: u32 = 0;
+    let mut refuted: u32 = 0;
+    for seed in 1..151 {
+        match judged(rt.alloc(), seed * 7919, 40) {
+            Some(true) => explained = explained.wrapping_add(1),
+            Some(false) => refuted = refuted.wrapping_add(1),
+            None => assert!(rt; false, "history {seed}"),
+        }
+    }
+    assert!(rt;
+        explained > 20 && refuted > 20,
+        "{explained} explained, {refuted} refuted"
+    );
+}
+
+/// Two stores to each of 40 bytes overlap. Then each byte is loaded: it is 1 in the even places and 2 in the odd ones,
+/// but for the last one, which is `last`. Returns whether all loads are explained.
+fn races(alloc: Global, most: usize, last: u8) -> Option<bool> {
+    let mut judge = PartedJudge::new(alloc, 40).ok()?;
+    for off in 0..40 {
+        if judge.is_open(1) || judge.is_open(2) {
+            return None;
+        }
+        judge.begin(1, store(off, 1)).ok()?;
+        if judge.is_open(2) {
+            return None;
+        }
+        judge.begin(2, store(off, 2)).ok()?;
+        for number in 1..3 {
+            if !judge.is_open(number) || judge.end(alloc, number, most).ok()?.is_some() {
+                return None;
+            }
+        }
+    }
+    for off in 0..40 {
+        if judge.is_open(3) {
+            return None;
+        }
+        let byte = if off == 39 { last } else { 1 + (off % 2) as u8 };
+        judge.begin(3, load(off, byte)).ok()?;
+        if !judge.is_open(3) {
+            return None;
+        }
+        if judge.end(alloc, 3, most).ok()?.is_some() {
+            return Some(false);
+        }
+    }
+    Some(true)
+}
+
+#[test]
+fn races_on_many_bytes_take_few_configurations(rt: HostRuntime) {
+    for (most, last, expected) in [
+        (6, 1, Some(true)),
+        (6, 2, Some(true)),
+        (6, 3, Some(false)),
+        (2, 1, None),
+    ] {
+        assert!(rt; races(rt.alloc(), most, last) == expected, "{most} {last}");
+    }
+}
