@@ -63,7 +63,9 @@ struct Pair {
 
 /// Begins a random access in both judges, which has its effect in the bytes at once. One of 40 loaded bytes is another
 /// one.
-fn begin(pair: &mut Pair, source: &mut Source, thread: usize) -> Option<()> {
+fn begin(pair: &mut Pair, source: &mut Source, thread: usize) -> Option<()>
+    requires { thread < 4 }
+{
     let len = 1 + source.next(2) as usize;
     let off = source.next(LEN as u64 - 1) as usize;
     let stores = source.next(3) > 0;
