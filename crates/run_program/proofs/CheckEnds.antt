@@ -1,9 +1,10 @@
--- How a judgement of a recorded history ends that stops for an error.
-use Rattle.std.proofs.Common.{◌≡◌, ◌≤◌, ℕ, arith, inr}
+-- How a judgement of a recorded history ends.
+use Rattle.std.proofs.Common.{◌≡◌, ◌≤◌, ℕ, arith, inl, inr}
+use Rattle.std.specs.Io.KnownBytes.{Keeps}
 use Rattle.model_jobs.specs.Texts.{ended}
 use Rattle.text_devices.specs.declared.faults.ReplayError.TheVariants.{Read, Write, Memory, Text}
-use Rattle.run_program.specs.Checks.{EndsCheck, HasFailedCheck, HasStoppedCheck, check_error_text, status_of_check}
-use Rattle.run_program.specs.Runs.{HasTold}
+use Rattle.run_program.specs.Checks.{EndsCheck, HasFailedCheck, HasStoppedCheck, HasToldVerdict, IsJudged, check_error_text, status_of_check}
+use Rattle.run_program.specs.Runs.{HasTold, IsSound}
 use Rattle.run_program.specs.Seen.{Seen}
 use Rattle.run_program.specs.declared.check_error.CheckError.{CheckError}
 use Rattle.run_program.specs.declared.check_error.CheckError.TheVariants.{Replay, Order}
@@ -15,6 +16,14 @@ status_bounds (Replay Write) = (omega arith, omega arith)
 status_bounds (Replay Memory) = (omega arith, omega arith)
 status_bounds (Replay (Text fault)) = (omega arith, omega arith)
 status_bounds (Order line) = (omega arith, omega arith)
+
+-- a verdict was written
+pub check_ends : (most : ℕ) (before after : Seen) (status : ℕ) → status ≤ 4 → HasToldVerdict most before.left after.left before.written after.written status
+    → IsSound after → Keeps before.told after.told → EndsCheck most before after status
+check_ends most before after status small told sound untold = record { done = λ _. judged; found = λ _. inl judged; small = omega (arith, small) }
+  where
+    judged : IsJudged most before after status
+    judged = record { done = told; sound = sound; untold = untold }
 
 -- the judgement stopped for an error, which was told
 pub check_stops : (most : ℕ) (before after : Seen) (error : CheckError) (status : ℕ) → status ≡ status_of_check error
