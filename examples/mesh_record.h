@@ -246,10 +246,10 @@ static inline void record_end_new(struct record_worker *worker, const volatile v
 
 /* ---- Merging, when the threads have ended or the program has crashed. It allocates nothing. ---- */
 
-/* How many calls were written, how many pairs of calls on one object overlapped in time, how many calls were pending,
- * and how many of these were left out. */
+/* How many calls were written, how many pairs of calls on one object overlapped in time, and how many calls were
+ * pending. */
 struct record_counts {
-    uint64_t calls, overlaps, pending, left_out;
+    uint64_t calls, overlaps, pending;
 };
 
 /* The calls of a worker that are still to be written, and the last one that was. */
@@ -257,25 +257,19 @@ struct record_cursor {
     const struct record_call *next, *end, *last;
 };
 
-/* When a call ended. For a call that was pending at a crash this is the greatest number: it may have taken effect, or
- * not, and after all other calls it has none that they could see. */
+/* When a call ended. For a call that was pending at a crash this is the greatest number. */
 static inline uint64_t record_end_of(const struct record_call *call)
 {
     return call->end != 0 ? call->end : UINT64_MAX;
 }
 
-/* Whether a call can't be written, because its answer isn't known: a load or a `new` that was pending. No other call
- * depends on it. A store or a `free` that was pending can't be left out: another thread may have loaded its bytes, or
- * have got its addresses. */
-static inline bool record_is_left_out(const struct record_call *call)
-{
-    return call->end == 0 && (call->kind == RECORD_NEW || call->kind == RECORD_GET);
-}
-
-/* Writes the END of a call. The format has no spelling of its own for a call without END: it would be written here. */
+/* Writes the END of a call, or `-` if the call was pending at a crash: it may have taken effect, or not. */
 static inline void record_write_end(FILE *out, const struct record_call *call)
 {
-    fprintf(out, "%" PRIu64, record_end_of(call));
+    if (call->end != 0)
+        fprintf(out, "%" PRIu64, (uint64_t)call->end);
+    else
+        fputc('-', out);
 }
 
 static inline void record_write_bytes(FILE *out, const struct record_call *call)
@@ -284,30 +278,46 @@ static inline void record_write_bytes(FILE *out, const struct record_call *call)
         fprintf(out, "%02x", call->bytes[i]);
 }
 
-static inline void record_write_call(FILE *out, unsigned worker, const struct record_call *call)
+static inline void record_write_command(FILE *out, const struct record_call *call)
 {
-    fprintf(out, "%u %" PRIu64 " ", worker, (uint64_t)call->begin);
-    record_write_end(out, call);
     switch (call->kind) {
     case RECORD_NEW:
-        fprintf(out, " new %" PRIu32 " %" PRIu64 " 0 -> ", call->cell, call->number);
-        if (call->address != 0)
-            fprintf(out, "object %" PRIu32 " at %" PRIx64, call->cell, call->address);
-        else
-            fprintf(out, "refused 3 NO_PAGES");
+        fprintf(out, " new %" PRIu32 " %" PRIu64 " 0", call->cell, call->number);
         break;
     case RECORD_PUT:
         fprintf(out, " put %" PRIu32 " %" PRIu64 " ", call->cell, call->number);
         record_write_bytes(out, call);
-        fprintf(out, " -> done");
         break;
     case RECORD_GET:
-        fprintf(out, " get %" PRIu32 " %" PRIu64 " %u -> bytes ", call->cell, call->number, call->count);
-        record_write_bytes(out, call);
+        fprintf(out, " get %" PRIu32 " %" PRIu64 " %u", call->cell, call->number, call->count);
         break;
     default:
-        fprintf(out, " free %" PRIu32 " -> done", call->cell);
+        fprintf(out, " free %" PRIu32, call->cell);
     }
+}
+
+static inline void record_write_answer(FILE *out, const struct record_call *call)
+{
+    if (call->kind == RECORD_NEW && call->address != 0) {
+        fprintf(out, " -> object %" PRIu32 " at %" PRIx64, call->cell, call->address);
+    } else if (call->kind == RECORD_NEW) {
+        fprintf(out, " -> refused 3 NO_PAGES");
+    } else if (call->kind == RECORD_GET) {
+        fprintf(out, " -> bytes ");
+        record_write_bytes(out, call);
+    } else {
+        fprintf(out, " -> done");
+    }
+}
+
+/* Writes the line of a call. A call that was pending has no answer. */
+static inline void record_write_call(FILE *out, unsigned worker, const struct record_call *call)
+{
+    fprintf(out, "%u %" PRIu64 " ", worker, (uint64_t)call->begin);
+    record_write_end(out, call);
+    record_write_command(out, call);
+    if (call->end != 0)
+        record_write_answer(out, call);
     fputc('\n', out);
 }
 
@@ -392,10 +402,6 @@ static inline bool record_write_calls(FILE *out, const struct record_head *head,
             return false;
         }
         counts->pending += call->end == 0;
-        if (record_is_left_out(call)) {
-            counts->left_out++;
-            continue;
-        }
         counts->calls++;
         counts->overlaps += record_overlaps(cursors, workers, call);
         record_write_call(out, w, call);
@@ -420,8 +426,7 @@ static inline bool record_merge(const char *path, FILE *out, struct record_count
     bool is_written = record_write_calls(out, head, counts);
     munmap((void *)head, bytes);
     if (counts->pending > 0)
-        fprintf(stderr, "calls that were pending: %" PRIu64 ", with the greatest END %" PRIu64 ", left out %" PRIu64
-                "\n", counts->pending, counts->pending - counts->left_out, counts->left_out);
+        fprintf(stderr, "calls that were pending: %" PRIu64 "\n", counts->pending);
     return is_written;
 }
 

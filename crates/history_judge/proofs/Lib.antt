@@ -1,3 +1,5 @@
 mod BegunReads
 mod CallsCome
 mod JudgementTexts
+mod KeptTexts
+mod PendingCalls

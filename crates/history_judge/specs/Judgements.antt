@@ -19,10 +19,11 @@ left_of begun left = prepend_known begun left
 abbrev pub overlapping_line : List ℕ
 overlapping_line = ended (codes "history 2")
 
--- what was found of the text that the device gave; the text's first line decides which kind of history it is
-abbrev pub HasJudged : Option (List ℕ) → Option (List ℕ) → Judgement → Type 0
-HasJudged left left' (InOrder verdict) = StartsOtherwise overlapping_line left × HasJudgedInOrder left left' (outcome_of verdict)
-HasJudged left left' (Overlapping verdict) = StartsWith overlapping_line left × HasJudgedOverlapping left left' verdict
+-- what was found of the text that the device gave; the text's first line decides which kind of history it is. If calls
+-- overlap, an object may have `most` configurations
+abbrev pub HasJudged : ℕ → Option (List ℕ) → Option (List ℕ) → Judgement → Type 0
+HasJudged most left left' (InOrder verdict) = StartsOtherwise overlapping_line left × HasJudgedInOrder left left' (outcome_of verdict)
+HasJudged most left left' (Overlapping verdict) = StartsWith overlapping_line left × HasJudgedOverlapping most left left' verdict
 
 -- why there is no judgement: the text, as a history of its kind, has this fault. If the input or an allocation failed,
 -- nothing is claimed

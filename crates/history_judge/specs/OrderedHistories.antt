@@ -1,8 +1,10 @@
 -- Overlapping calls as a history, in an order that explains them.
-use Rattle.std.specs.Prelude.{◌≡◌, ◌≤◌, ◌-◌, ◌^◌, ◌⊎◌, ℕ, List, Option, Some, None, length, map}
+use Rattle.std.specs.Prelude.{◌≡◌, ◌<◌, ◌≤◌, ◌-◌, ◌^◌, ◌⊎◌, ℕ, List, Option, Some, None, length, map}
 use Rattle.std.specs.Io.KnownBytes.{Consumes, IsAtEnd}
 use Rattle.std.specs.List.{All}
+use Rattle.model_intervals.specs.Completions.{never}
 use Rattle.model_intervals.specs.Intervals.{Call, Explains}
+use Rattle.model_intervals.specs.OverlappingCalls.{IsAt}
 use Rattle.history_object.specs.declared.faults.JudgeFault.{JudgeFault}
 use Rattle.history_object.specs.declared.faults.JudgeFault.TheVariants.{Memory as OutOfMemory, TooMany, TooManyPending}
 use Rattle.history_reading.specs.CallInputs.{HasCome, HasStopped}
@@ -11,6 +13,7 @@ use Rattle.history_reading.specs.CallWords.{IsReadCall, plain_call}
 use Rattle.history_reading.specs.declared.faults.CallError.{CallError}
 use Rattle.history_reading.specs.declared.call_inputs.CallInput.{CallInput}
 use Rattle.history_reading.specs.declared.words.TimedCall.{TimedCall}
+use Rattle.history_overlaps.specs.Checks.{IsLinearizableText}
 use Rattle.history_overlaps.specs.Followed.{IsStopped}
 use Rattle.history_overlaps.specs.OrderTexts.{ordered_text}
 use Rattle.history_overlaps.specs.OwnOrders.{BeginInOrder}
@@ -36,13 +39,24 @@ pub record HaveCome (left left' : Option (List ℕ)) (calls : List TimedCall) : 
   pub at_end : IsAtEnd left'
   pub are : AreCallsOf text calls
 
--- the text has no fault, and the history consists of its calls in an order that explains them
+-- the text has no fault, none of its calls was pending when the recording stopped, and the history consists of its
+-- calls in an order that explains them
 pub record IsOrderedHistory (text history : List ℕ) : Type 0 where
   pub calls : List Call
   pub reading : calls_of text ≡ record { calls = calls; fault = None }
+  pub in_time : All (λ call. call.end < never) calls
   pub order : List Call
   pub explains : Explains calls order
   pub is : history ≡ ordered_text order
+
+-- a call of the text was pending when the recording stopped
+abbrev pub HasPending : List ℕ → Type 0
+HasPending text = (place : ℕ) × (call : Call) × IsAt (calls_of text).calls place call × (call.end ≡ never)
+
+-- why the calls of a text have no order: one of them was pending when the recording stopped, or the text has a fault,
+-- or its calls are no history or no order explains them
+abbrev pub IsWithoutOrder : List ℕ → Type 0
+IsWithoutOrder text = HasPending text ⊎ ((entries : ℕ) → IsLinearizableText text entries → ⊥)
 
 -- the text has a fault, or one of its calls is out of order
 abbrev pub HasFault : List ℕ → Type 0

@@ -35,7 +35,7 @@ pub fn judge<I: Source + Drop>(
     requires { I.has_failed input.old.inner ≡ false }
     ensures ok { OnOk result (I.has_failed input.new.inner ≡ false) }
     ensures judged { IfOk result
-        (HasJudged (left_of input.old.begun.items (I.remaining input.old.inner))
+        (HasJudged most (left_of input.old.begun.items (I.remaining input.old.inner))
         (left_of input.new.begun.items (I.remaining input.new.inner))) }
     ensures fault { IfErr result
         (HasNotJudged (left_of input.old.begun.items (I.remaining input.old.inner))

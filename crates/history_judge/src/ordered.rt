@@ -1,18 +1,20 @@
 //! An order of effects that explains calls that overlap.
-ghost use Rattle.std.specs.Prelude.{◌≡◌, ◌++◌, ◌∷◌, [], ℕ, false, Err, IfErr, IfOk, IfSome, IsNone, OnOk};
+ghost use Rattle.std.specs.Prelude.{◌≡◌, ◌++◌, ◌∷◌, [], false, nat_eq, Err, IfErr, IfOk, IfSome, IsNone, OnOk};
+ghost use Rattle.std.specs.List.{list_any};
+ghost use Rattle.model_intervals.specs.Completions.{never};
 ghost use Rattle.history_reading.specs.CallInputs.{IsFresh};
-ghost use Rattle.history_overlaps.specs.Checks.{IsLinearizableText};
 ghost use Rattle.history_judge.specs.declared.order_faults.OrderFault.{OrderFault};
-ghost use Rattle.history_judge.specs.OrderedHistories.{AreCallsOf, HasFault, HasNoAnswer, HasStoppedSomewhere, HaveCome, IsOrderedHistory};
+ghost use Rattle.history_judge.specs.OrderedHistories.{AreCallsOf, HasFault, HasNoAnswer, HasStoppedSomewhere, HaveCome, IsOrderedHistory, IsWithoutOrder};
 
 use crate::OrderFault;
 use history_overlaps::{linearize, written_in_order};
-use history_reading::{CallError, CallInput, TimedCall};
+use history_reading::{CallError, CallInput, NEVER, TimedCall};
 use std::alloc::{AllocError, Global};
 use text_devices::{Input, Source};
 
 /// Returns the calls of a text of `history 2` in an order of effects that explains them, as a text of `history 1`.
-/// Returns `None` if the text has a fault, or if its calls are no history or no order explains them.
+/// Returns `None` if the text has a fault, if a call was pending when the recording stopped, or if the calls are no
+/// history or no order explains them.
 ///
 /// The error is `Undecided` if more than `most` configurations of an object are met at the end of a call, if more than
 /// 64 accesses to one object are pending, or if there are 2^32 - 1 calls or more.
@@ -22,13 +24,15 @@ pub fn ordered_history(
     most: usize,
 ) -> Result<Option<Vec<u8>>, OrderFault>
     ensures ordered { IfOk result (λ found. IfSome found (λ history. IsOrderedHistory text.now history.items)) }
-    ensures none { IfOk result
-        (λ found. IsNone found → (entries : ℕ) → IsLinearizableText text.now entries → ⊥) }
+    ensures none { IfOk result (λ found. IsNone found → IsWithoutOrder text.now) }
     ensures stopped { IfErr result (HasNoAnswer text.now most) }
 {
     let Some(calls) = calls_in(alloc, text)? else {
         return Ok(None);
     };
+    if some_pending(calls.as_slice()) {
+        return Ok(None);
+    }
     if calls.len() >= u32::MAX as usize {
         return Err(OrderFault::Undecided);
     }
@@ -37,6 +41,13 @@ pub fn ordered_history(
     };
     let history = written_in_order(alloc, calls.as_slice(), order.as_slice())?;
     Ok(Some(history))
+}
+
+/// Whether a call was pending when the recording stopped.
+fn some_pending(calls: &[TimedCall]) -> bool
+    ensures { result ≡ list_any (λ call. nat_eq call.end never) calls.now }
+{
+    calls.iter().any(|call| call.end == NEVER)
 }
 
 /// Returns the calls of a text, or `None` if the text has a fault.

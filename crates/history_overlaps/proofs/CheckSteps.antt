@@ -1,22 +1,23 @@
 -- What is kept from call to call, and what is found at the end.
-use Rattle.std.proofs.Common.{◌≡◌, ℕ, zero, suc, ◌+◌, ◌^◌, ◌<◌, ◌≤◌, ◌⊎◌, inl, inr, Bool, true, false, ◌&&◌, nat_eq, nat_le, List, [], ◌∷◌, ◌++◌, append_assoc, length, length-append, arith, refl, sym, subst, ◌∙◌, ap, Option, Some, None, Result, Ok, Err}
-use Rattle.std.specs.Prelude.{IfOk, IfSome}
+use Rattle.std.proofs.Common.{◌≡◌, ℕ, zero, suc, ◌+◌, ◌<◌, ◌≤◌, ◌⊎◌, inl, inr, Bool, true, false, ◌&&◌, nat_eq, nat_le, List, [], ◌∷◌, ◌++◌, append_assoc, length, length-append, arith, refl, sym, subst, ◌∙◌, ap, Option, Some, None, Result, Ok, Err, ◌≢◌, ◌^◌}
+use Rattle.std.specs.Prelude.{IfOk, IfSome, IfErr}
 use Rattle.std.specs.List.{list_all}
 use Rattle.std.specs.Io.KnownBytes.{Consumes, IsAtEnd}
 use Rattle.std.proofs.lemmas.Bool.Decides.{leb_tells}
 use Rattle.std.proofs.lemmas.List.{append-nil}
 use Rattle.std.proofs.lemmas.List.Sums.{AllPass-from_list_all}
+use Rattle.model_intervals.specs.Completions.{EndsInTime, HasCompletion, never}
 use Rattle.model_intervals.specs.Intervals.{Call, IsLinearizable}
 use Rattle.model_intervals.specs.Objects.{IsExplainedByObject}
 use Rattle.model_intervals.specs.OverlappingCalls.{HasEffect, IsAt, IsHistory, cell_at}
-use Rattle.model_intervals.proofs.ByObject.{explained}
 use Rattle.model_intervals.proofs.LaterCalls.{fewer_ended}
-use Rattle.model_intervals.proofs.OneOrder.{linearizable}
 use Rattle.model_history.specs.Recorded.{many_cells}
 use Rattle.model_words.specs.declared.faults.FaultKind.{FaultKind}
 use Rattle.text_fields.proofs.Splits.{some_part}
 use Rattle.text_devices.specs.Ends.{is_full, too_long}
 use Rattle.text_devices.specs.LineInputs.{unread_of}
+use Rattle.history_object.specs.declared.faults.JudgeFault.{JudgeFault}
+use Rattle.history_object.specs.declared.faults.JudgeFault.TheVariants.{Memory as NoMemory}
 use Rattle.history_reading.specs.CallFiles.{call_head_in, call_in}
 use Rattle.history_reading.specs.CallInputs.{HasCome, HasStopped}
 use Rattle.history_reading.specs.CallReadings.{CallFault, CallLine, CallReading, Head, OfCall, OfText, OutOfOrder, calls_from, calls_of, call_line, head_line, is_in_order, next_in, read_on}
@@ -44,10 +45,9 @@ use Rattle.history_number_set.specs.Ranges.{Has}
 use Rattle.history_overlaps.proofs.BegunWrong.{none_goes_on}
 use Rattle.history_overlaps.proofs.CallPlaces.{at_below, at_end, at_front, at_one, at_same}
 use Rattle.history_overlaps.proofs.Completed.{completed}
-use Rattle.history_overlaps.proofs.Finish.{is_explained}
 use Rattle.history_overlaps.proofs.LivesWrong.{all_at}
+use Rattle.history_overlaps.proofs.NoneCompleted.{none_completed, none_completed_on}
 use Rattle.history_overlaps.proofs.PickedHistory.{ended_before}
-use Rattle.history_overlaps.proofs.QueueSteps.{small_place}
 use Rattle.history_overlaps.proofs.AccessOrders.{tells}
 
 -- ---- the order of the lines
@@ -169,10 +169,10 @@ read_on_from history left left' calls call come more =
 
 -- what is told before a call begins is told of the text
 pub judged_before : (history : CallInput) (left left' : Option (List ℕ)) (calls : List Call) (call : Call) → HasCome history left left' (calls ++ call ∷ [])
-    → (verdict : CallVerdict) → IsJudgedBefore calls call verdict → HasJudged left left' verdict
-judged_before history left left' calls call come (Linearizable entries) told = absurd told
-judged_before history left left' calls call come (Undecided line fault) told = absurd told
-judged_before history left left' calls call come (Misused line misuse) told = (
+    → (most : ℕ) (verdict : CallVerdict) → IsJudgedBefore calls call verdict → HasJudged most left left' verdict
+judged_before history left left' calls call come most (Linearizable entries) told = absurd told
+judged_before history left left' calls call come most (Undecided line fault) told = absurd told
+judged_before history left left' calls call come most (Misused line misuse) told = (
   come.come.text,
   come.come.taken,
   record {
@@ -180,13 +180,14 @@ judged_before history left left' calls call come (Misused line misuse) told = (
     number = told.0;
     in_line = told.1;
     misused = told.2;
+    completed = told.4;
     first = λ more. let on = read_on_from history left left' calls call come more in (on.later, on.are ∙ sym (append_assoc calls (call ∷ []) on.later));
     none = λ more is_history.
         let on = read_on_from history left left' calls call come more in
         told.3 on.later (λ j a is. on.from (suc j) a is) (subst IsHistory (on.are ∙ sym (append_assoc calls (call ∷ []) on.later)) is_history);
   },
 )
-judged_before history left left' calls call come (Flawed line flaw) told = (
+judged_before history left left' calls call come most (Flawed line flaw) told = (
   come.come.text,
   come.come.taken,
   record {
@@ -198,20 +199,20 @@ judged_before history left left' calls call come (Flawed line flaw) told = (
     flawed = told.4;
     unexplained = inl (λ more. let on = read_on_from history left left' calls call come more in (
       (call ∷ on.later, on.are),
-      λ history_of_all linear.
-          let all_history = subst IsHistory on.are history_of_all in
-          told.5 (call ∷ on.later) on.from all_history (explained (calls ++ call ∷ on.later) all_history (subst IsLinearizable on.are linear)),
+      λ history_of_all completion.
+          none_completed_on calls (call ∷ on.later) told.0 call.begin told.5 told.6 told.3 on.from (subst IsHistory on.are history_of_all)
+          (subst (λ (cs : List Call). HasCompletion cs (EndsInTime cs)) on.are completion),
     ));
   },
 )
 
 -- what is told when all calls have ended is told of the text
 pub judged_at_end : (left left' : Option (List ℕ)) (text : List ℕ) (calls : List Call) → Consumes left left' text → IsAtEnd left'
-    → calls_of text ≡ record { calls = calls; fault = None } → (verdict : CallVerdict) → IsJudgedAtEnd calls verdict → HasJudged left left' verdict
-judged_at_end left left' text calls taken at_end is (Linearizable entries) told = absurd told
-judged_at_end left left' text calls taken at_end is (Misused line misuse) told = absurd told
-judged_at_end left left' text calls taken at_end is (Undecided line fault) told = absurd told
-judged_at_end left left' text calls taken at_end is (Flawed line flaw) told =
+    → calls_of text ≡ record { calls = calls; fault = None } → (most : ℕ) (verdict : CallVerdict) → IsJudgedAtEnd calls verdict → HasJudged most left left' verdict
+judged_at_end left left' text calls taken at_end is most (Linearizable entries) told = absurd told
+judged_at_end left left' text calls taken at_end is most (Misused line misuse) told = absurd told
+judged_at_end left left' text calls taken at_end is most (Undecided line fault) told = absurd told
+judged_at_end left left' text calls taken at_end is most (Flawed line flaw) told =
     let are : (calls_of text).calls ≡ calls = ap (λ (r : CallReading). r.calls) is in (
       text,
       taken,
@@ -222,7 +223,7 @@ judged_at_end left left' text calls taken at_end is (Flawed line flaw) told =
         history = told.2;
         first_wrong = told.3;
         flawed = told.4;
-        unexplained = inr ((([], are ∙ sym (append-nil calls)), λ history linear. told.5 (subst IsLinearizable are linear)), at_end);
+        unexplained = inr ((([], are ∙ sym (append-nil calls)), λ history completion. told.5 (subst (λ (cs : List Call). HasCompletion cs (EndsInTime cs)) are completion)), at_end);
       },
     )
 
@@ -254,7 +255,7 @@ module _ (old : Timeline) (calls : List Call) (kept : IsKept old calls) where
       ]
 
   module _ (mid new : Timeline) (call : Call) (are : AreEnded old mid call.begin) (none : NoneBefore (waits_of mid) call.begin) (in_order : is_in_order calls call ≡ true)
-      (takes_time : call.begin ≤ call.end) (ends : call.end < 2 ^ 64) (effect : HasEffect call.entry.command call.entry.reply) (cell : cell_at call < many_cells)
+      (takes_time : call.begin ≤ call.end) (ends : call.end ≤ never) (effect : HasEffect call.entry.command call.entry.reply) (cell : cell_at call < many_cells)
       (room : length calls < 4294967296) where
     pub may_begin : MayBegin calls (waits_of mid) call
     may_begin = record {
@@ -279,48 +280,43 @@ module _ (old : Timeline) (calls : List Call) (kept : IsKept old calls) where
       reached = inr (length calls, call, at_end calls call, omega arith);
       ends = λ i a is. elim (at_one calls call i a is) [
         | inl front ↦ kept.ends i a front
-        | inr here ↦ subst (λ (c : Call). (c.begin ≤ c.end) × (c.end < 2 ^ 64)) here.1 (takes_time, ends)
+        | inr here ↦ subst (λ (c : Call). (c.begin ≤ c.end) × (c.end ≤ never)) here.1 (takes_time, ends)
       ];
     }
 
-  -- every call has ended
-  pub kept_finished : (new : Timeline) → AreEnded old new (2 ^ 64) → NoneBefore (waits_of new) (2 ^ 64) → IsHistory calls × IsLinearizable calls
+  -- every call has ended that wasn't pending when the recording stopped
+  pub kept_finished : (new : Timeline) → AreEnded old new never → NoneBefore (waits_of new) never → IsHistory calls × HasCompletion calls (EndsInTime calls)
   kept_finished new are none =
-      let holds = are.stands calls kept.stands in
-      let nothing : (key : ℕ) → waits_of new key ≡ None = (λ key. no_wait holds key (waits_of new key) refl) in
-      (holds.history, linearizable calls holds.history (is_explained calls (waits_of new) (lives_of new) (starts_of new) (Has new.cells) (Has new.serials) (Has new.freed) holds nothing))
+      let holds = are.stands calls kept.stands in (
+        holds.history,
+        fewer_ended calls (HasEnded calls (waits_of new)) (EndsInTime calls) over
+            (completed calls (waits_of new) (lives_of new) (starts_of new) (Has new.cells) (Has new.serials) (Has new.freed) holds),
+      )
     where
-      no_wait : Stands calls new → (key : ℕ) (w : Option Pending) → waits_of new key ≡ w → waits_of new key ≡ None
-      no_wait holds key None is = is
-      no_wait holds key (Some p) is = absurd (
-          let at = holds.queue.keyed key p is in let late = none key p is in let k = at.is_key in
-          let end = (kept.ends at.place at.call at.there).1 in let small = small_place calls (waits_of new) holds.queue at.place at.call at.there in omega (arith, late, k, end, small))
+      no_wait : (i : ℕ) (a : Call) → IsAt calls i a → a.end < never → (w : Option Pending) → waits_of new (key_of a i) ≡ w → HasEnded calls (waits_of new) i
+      no_wait i a is early None gone = (a, is, gone)
+      no_wait i a is early (Some p) waits = absurd (
+          let late = none (key_of a i) p waits in let small = at_below calls i a is in let many = kept.many in omega (arith, late, early, small, many))
+
+      over : (i : ℕ) → EndsInTime calls i → HasEnded calls (waits_of new) i
+      over i (a, is, early) = no_wait i a is early (waits_of new (key_of a i)) refl
 
   -- the place of a flaw
   pub flaw_below : (number : ℕ) (flaw : Flaw) → IsFlawAt calls number flaw → number < length calls
   flaw_below number flaw at = at_below calls number at.0 at.1
 
   -- a flaw is found before a call in order begins
-  pub kept_flawed_before : (call : Call) (found : Found) → IsRuledOut old call.begin found
+  pub kept_flawed_before : (call : Call) (found : Found) → call.begin ≤ never → IsRuledOut old call.begin found
       → IsJudgedBefore calls call (Flawed (found.number + 2) found.flaw)
-  kept_flawed_before call found out = let told = out calls kept.stands in (found.number, refl, kept.stands.history, told.0, told.1, told.2)
+  kept_flawed_before call found in_time out =
+      let told = out calls kept.stands in let last = told.3 in let ahead = last.2 in
+      (found.number, refl, kept.stands.history, told.0, told.1, last, (last.0, last.1, omega (arith, ahead, in_time)))
 
   -- a flaw is found at the end
-  pub kept_flawed : (found : Found) → IsRuledOut old (2 ^ 64) found → IsJudgedAtEnd calls (Flawed (found.number + 2) found.flaw)
+  pub kept_flawed : (found : Found) → IsRuledOut old never found → IsJudgedAtEnd calls (Flawed (found.number + 2) found.flaw)
   kept_flawed found out =
-      let told = out calls kept.stands in let history = kept.stands.history in (
-        found.number,
-        refl,
-        history,
-        told.0,
-        told.1,
-        λ linear. told.2 [] (λ i a is. absurd (nowhere i a is)) (subst IsHistory (sym (append-nil calls)) history)
-            (subst IsExplainedByObject (sym (append-nil calls)) (explained calls history linear)),
-      )
-    where
-      nowhere : (i : ℕ) (a : Call) → IsAt [] i a → ⊥
-      nowhere zero a at = cc at
-      nowhere (suc i) a at = cc at
+      let told = out calls kept.stands in
+      (found.number, refl, kept.stands.history, told.0, told.1, none_completed calls found.number told.3 told.0)
 
 -- the place of a call that breaks a rule
 pub misused_below : (calls : List Call) (number : ℕ) (misuse : Misuse) → IsMisusedAt calls number misuse → number < length calls
@@ -330,8 +326,9 @@ misused_below calls number NotBeforeFree at = at_below calls number at.call at.t
 
 -- a rule is broken where a call in order begins
 pub misused_before : (calls : List Call) (call : Call) (number : ℕ) (misuse : Misuse) → IsMisusedAt (calls ++ call ∷ []) number misuse → is_in_order calls call ≡ true
-    → IsJudgedBefore calls call (Misused (number + 2) misuse)
-misused_before calls call number misuse at in_order = (number, refl, at, none_goes_on (calls ++ call ∷ []) number misuse call.begin at begun)
+    → HasCompletion (calls ++ call ∷ []) (EndedBeforeOne (calls ++ call ∷ [])) → IsJudgedBefore calls call (Misused (number + 2) misuse)
+misused_before calls call number misuse at in_order completion =
+    (number, refl, at, none_goes_on (calls ++ call ∷ []) number misuse call.begin at begun, completion)
   where
     begun : (i : ℕ) (a : Call) → IsAt (calls ++ call ∷ []) i a → a.begin ≤ call.begin
     begun i a is = elim (at_one calls call i a is) [
@@ -354,13 +351,29 @@ past_begun calls call waits waits' moment pending room starting past i a over is
 
 -- ---- verdicts
 
--- a verdict is told of what was found
-pub judged_by : (left left' : Option (List ℕ)) (found : Result (Option CallVerdict) Stop) (P : CallVerdict → Type 0) → IfOk found (λ f. IfSome f P)
-    → ((verdict : CallVerdict) → P verdict → HasJudged left left' verdict) → (verdict : CallVerdict) → IsTold found verdict → HasJudged left left' verdict
-judged_by left left' found P h judge (Undecided line fault) told = tt
-judged_by left left' found P h judge (Linearizable entries) told = judge (Linearizable entries) (subst (λ (r : Result (Option CallVerdict) Stop). IfOk r (λ f. IfSome f P)) told h)
-judged_by left left' found P h judge (Misused line misuse) told = judge (Misused line misuse) (subst (λ (r : Result (Option CallVerdict) Stop). IfOk r (λ f. IfSome f P)) told h)
-judged_by left left' found P h judge (Flawed line flaw) told = judge (Flawed line flaw) (subst (λ (r : Result (Option CallVerdict) Stop). IfOk r (λ f. IfSome f P)) told h)
+-- a verdict that was found is told
+pub told_found : (found : Result (Option CallVerdict) Stop) (o : Option CallVerdict) → found ≡ Ok o → IfSome o (IsTold found)
+told_found found None is = tt
+told_found found (Some (Undecided line fault)) is = inl is
+told_found found (Some (Linearizable entries)) is = is
+told_found found (Some (Misused line misuse)) is = is
+told_found found (Some (Flawed line flaw)) is = is
+
+-- a verdict is told of what was found, or of why the judge stops
+pub judged_by : (most : ℕ) (left left' : Option (List ℕ)) (found : Result (Option CallVerdict) Stop) (P : CallVerdict → Type 0) (S : Stop → Type 0) → IfOk found (λ f. IfSome f P)
+    → IfErr found S → ((verdict : CallVerdict) → P verdict → HasJudged most left left' verdict)
+    → ((stop : Stop) (line : ℕ) (fault : JudgeFault) → line ≡ stop.number + 2 → fault ≡ stop.fault → fault ≢ NoMemory → S stop → HasJudged most left left' (Undecided line fault))
+    → (verdict : CallVerdict) → IsTold found verdict → HasJudged most left left' verdict
+judged_by most left left' found P S h e judge stopped (Undecided line fault) (inl told) =
+    judge (Undecided line fault) (subst (λ (r : Result (Option CallVerdict) Stop). IfOk r (λ f. IfSome f P)) told h)
+judged_by most left left' found P S h e judge stopped (Undecided line fault) (inr (stop, is, in_line, same, other)) =
+    stopped stop line fault in_line same other (subst (λ (r : Result (Option CallVerdict) Stop). IfErr r S) is e)
+judged_by most left left' found P S h e judge stopped (Linearizable entries) told =
+    judge (Linearizable entries) (subst (λ (r : Result (Option CallVerdict) Stop). IfOk r (λ f. IfSome f P)) told h)
+judged_by most left left' found P S h e judge stopped (Misused line misuse) told =
+    judge (Misused line misuse) (subst (λ (r : Result (Option CallVerdict) Stop). IfOk r (λ f. IfSome f P)) told h)
+judged_by most left left' found P S h e judge stopped (Flawed line flaw) told =
+    judge (Flawed line flaw) (subst (λ (r : Result (Option CallVerdict) Stop). IfOk r (λ f. IfSome f P)) told h)
 
 -- no flaw of calls that ended before another one began is hidden
 pub none_hidden : (t : Timeline) (calls : List Call) → IsKept t calls → HideNoFlaw calls

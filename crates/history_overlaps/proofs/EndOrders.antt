@@ -1,12 +1,12 @@
 -- A call ends: the order of ends.
-use Rattle.std.proofs.Common.{◌≡◌, ◌≢◌, ℕ, ◌+◌, ◌<◌, ◌≤◌, ◌⊎◌, inl, inr, List, [], ◌∷◌, ◌++◌, arith, refl, sym, subst, Option, Some, None}
+use Rattle.std.proofs.Common.{◌≡◌, ◌≢◌, ℕ, ◌<◌, ◌≤◌, ◌⊎◌, inl, inr, List, arith, refl, sym, subst, Option, Some, None}
 use Rattle.model_intervals.specs.Completions.{EndsBefore, EndsBy}
 use Rattle.model_intervals.specs.Intervals.{Call}
 use Rattle.model_intervals.specs.OverlappingCalls.{IsAt}
-use Rattle.history_overlaps.specs.Queues.{HasEnded, IsWaiting, MayBegin, Queue, WaitsAt, key_of}
-use Rattle.history_overlaps.specs.Timelines.{StartsWaiting, StopsWaiting}
+use Rattle.history_overlaps.specs.Queues.{HasEnded, IsWaiting, Queue, WaitsAt, key_of}
+use Rattle.history_overlaps.specs.Timelines.{StopsWaiting}
 use Rattle.history_overlaps.specs.declared.pending.Pending.{Pending}
-use Rattle.history_overlaps.proofs.CallPlaces.{at_front, at_one, at_same}
+use Rattle.history_overlaps.proofs.CallPlaces.{at_same}
 use Rattle.history_overlaps.proofs.QueueSteps.{ended_or_this, ending, less_or_same, small_place, waited_too}
 
 -- ---- keys
@@ -93,3 +93,14 @@ module _ (calls : List Call) (waits waits' : ℕ → Option Pending) (key : ℕ)
     )
     | inr here ↦ (last.call, last.call, subst (λ (n : ℕ). IsAt calls n last.call) (sym here) last.there, last.there, inr (refl, omega (arith, here)))
   ]
+
+  -- nor before its end any but those before it
+  pub before_ended : (i : ℕ) → HasEnded calls waits i → EndsBefore calls last.place i
+  before_ended i over = (
+    over.0,
+    last.call,
+    over.1,
+    last.there,
+    before_key over.0 last.call i last.place (small i over.0 over.1) (small last.place last.call last.there)
+        (queue.order i last.place over.0 last.call over over.1 last.there it_waits),
+  )

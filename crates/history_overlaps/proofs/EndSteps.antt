@@ -16,11 +16,11 @@ use Rattle.model_intervals.specs.Objects.{Object as AnObject, IsFairNew, IsMadeA
 use Rattle.model_intervals.specs.OverlappingCalls.{IsAt, IsNew, cell_at, cell_of}
 use Rattle.text_words.specs.RecordedWords.{plain_reply}
 use Rattle.text_words.specs.declared.recorded.RecordedReply.{RecordedReply}
-use Rattle.text_words.specs.declared.recorded.RecordedReply.TheVariants.{Object as ToldObject, Refused as ToldRefused}
+use Rattle.text_words.specs.declared.recorded.RecordedReply.TheVariants.{Object as ToldObject}
 use Rattle.history_number_set.specs.Ranges.{Has}
 use Rattle.history_object.specs.Following.{IsOpen}
 use Rattle.history_overlaps.specs.Accesses.{PlacedCall}
-use Rattle.history_overlaps.specs.Ends.{AreDisjoint, AreEnded, HasEndedIn, IsFirstBefore, IsGone, IsOverlapped, IsRuledOut, Misses, Past}
+use Rattle.history_overlaps.specs.Ends.{AreDisjoint, AreEnded, HasEndedIn, IsFirstBefore, IsGone, IsOverlapped, IsRuledOut, IsToldIn, Misses, Past}
 use Rattle.history_overlaps.specs.Flaws.{IsFlawOf, IsRefusalFlaw}
 use Rattle.history_overlaps.specs.Judges.{AccessJudge, IsJudged, live_of}
 use Rattle.history_overlaps.specs.LifeSteps.{HasEndedAt}
@@ -30,12 +30,12 @@ use Rattle.history_overlaps.specs.Standing.{HasEndedSo, IsEnding, IsFlawed, IsSe
 use Rattle.history_overlaps.specs.Timelines.{FewOpen, Holds, StopsWaiting}
 use Rattle.history_overlaps.specs.declared.flaws.Flaw.{Flaw}
 use Rattle.history_overlaps.specs.declared.flaws.Flaw.TheVariants.{SerialAgain, NoByte, StrangeRefusal, Overlaps, NoOrder}
+use Rattle.history_overlaps.specs.declared.life.AccessEnd.TheVariants.{Unexplained as NotExplained}
 use Rattle.history_overlaps.specs.declared.life.Life.{Life}
 use Rattle.history_overlaps.specs.declared.objects.NewObject.{NewObject}
 use Rattle.history_overlaps.specs.declared.pending.Pending.{Pending}
 use Rattle.history_overlaps.specs.declared.pending.Pending.TheVariants.{Made, Refused, Free as FreeEnds, Access}
 use Rattle.history_overlaps.specs.declared.possible.Unexplained.{Unexplained}
-use Rattle.history_overlaps.specs.declared.stops.Found.{Found}
 use Rattle.history_overlaps.specs.declared.timeline.Timeline.{Timeline}
 use Rattle.history_overlaps.proofs.CallPlaces.{at_same}
 use Rattle.history_overlaps.proofs.Fair.{fair_length}
@@ -46,6 +46,7 @@ use Rattle.history_overlaps.proofs.LivesEnd.{made_at_cell, made_by_new}
 use Rattle.history_overlaps.proofs.QueueSteps.{small_place}
 use Rattle.history_overlaps.proofs.StateAccess.{access_of_cell}
 use Rattle.history_overlaps.proofs.StateEnd.{free_ends, in_order, made_new_ends, not_yet, refused_new_ends, taken_range, taken_serial, this, unfair_new}
+use Rattle.history_overlaps.proofs.UnexplainedCalls.{unexplained_call}
 
 -- what holds of a value holds of what follows from it
 pub if_some_weaker : {X : Type 0} (o : Option X) (P Q : X → Type 0) → ((x : X) → P x → Q x) → IfSome o P → IfSome o Q
@@ -61,11 +62,11 @@ EndedParts old lives' starts' serials' number pending = (calls : List Call) (wai
 
 module _ (t : Timeline) (pending : Pending) (calls : List Call) (waits : ℕ → Option Pending) (key : ℕ) (stop : StopsWaiting waits (waits_of t) key pending)
     (h : StandsWith calls waits t) where
-  abbrev one : WaitsAt calls key pending
+  abbrev pub one : WaitsAt calls key pending
   one = this calls waits (waits_of t) key pending stop (lives_of t) (starts_of t) (Has t.cells) (Has t.serials) (Has t.freed) h
 
   module _ (number : ℕ) (at : key % 4294967296 ≡ number) where
-    its_place : one.place ≡ number
+    pub its_place : one.place ≡ number
     its_place = let is = one.is_key in let small = small_place calls waits h.queue one.place one.call one.there in omega (arith, is, small, at)
 
     is_there : IsAt calls number one.call
@@ -74,7 +75,7 @@ module _ (t : Timeline) (pending : Pending) (calls : List Call) (waits : ℕ →
     first_there : IsFirstWrong calls one.place → IsFirstWrong calls number
     first_there first = subst (λ (n : ℕ). IsFirstWrong calls n) its_place first
 
-  its_end : (moment : ℕ) → key < moment * 4294967296 → one.call.end < moment
+  pub its_end : (moment : ℕ) → key < moment * 4294967296 → one.call.end < moment
   its_end moment early = let is = one.is_key in let small = small_place calls waits h.queue one.place one.call one.there in omega (arith, is, early)
 
 -- ---- a `free`
@@ -297,15 +298,18 @@ module _ (t : Timeline) (number cell : ℕ) where
         access_end_holds calls waits (waits_of t) key (Access cell) stop (lives_of t) (starts_of t) (Has t.cells) (Has t.serials) (Has t.freed) h cell refl
         ended.0 ended.2 ended.1 left (ended_there calls waits key at stop h) ended.4 lives' some ended.3.0 ended.3.1
 
-    pub access_unexplained : left ≡ false → (unexplained : Unexplained) → IsFlawed t number (Access cell) (NoOrder unexplained)
-    access_unexplained none unexplained calls waits key moment at stop h early = (
+    pub access_unexplained : left ≡ false → (told : Unexplained) → IsToldIn (lives_of t) cell number (NotExplained told)
+        → IsFlawed t number (Access cell) (NoOrder told)
+    access_unexplained none told told_in calls waits key moment at stop h early = (
       first_there t (Access cell) calls waits key stop h number at
           (access_is_first_wrong calls waits (waits_of t) key (Access cell) stop (lives_of t) (starts_of t) (Has t.cells) (Has t.serials) (Has t.freed) h
           cell ended.0 ended.1 left ended.2 (ended_there calls waits key at stop h) none),
       (
         (one t (Access cell) calls waits key stop h).call,
         is_there t (Access cell) calls waits key stop h number at,
-        (one t (Access cell) calls waits key stop h).suits.0,
+        unexplained_call calls waits (lives_of t) (starts_of t) (Has t.cells) (Has t.serials) (Has t.freed) h number cell
+            (one t (Access cell) calls waits key stop h).call (is_there t (Access cell) calls waits key stop h number at)
+            (one t (Access cell) calls waits key stop h).suits.0 (one t (Access cell) calls waits key stop h).suits.1 told told_in,
       ),
       access_end_wrong calls waits (waits_of t) key (Access cell) stop (lives_of t) (starts_of t) (Has t.cells) (Has t.serials) (Has t.freed) h cell refl
           ended.0 ended.2 ended.1 left (ended_there calls waits key at stop h) ended.4 none moment
@@ -373,7 +377,17 @@ pub flawed_one : (start mid taken : Timeline) (moment number : ℕ) (pending : P
     → ((calls : List Call) (waits : ℕ → Option Pending) → StandsWith calls waits mid → StandsWith calls waits taken)
     → IsFlawed taken number pending flaw → IsRuledOut start moment (record { number = number; flaw = flaw })
 flawed_one start mid taken moment number pending flaw are first same flawed calls stands =
-    flawed calls (waits_of mid) first.key moment first.is_number first.stops (same calls (waits_of mid) (are.stands calls stands)) first.before
+    let h = same calls (waits_of mid) (are.stands calls stands) in
+    let told = flawed calls (waits_of mid) first.key moment first.is_number first.stops h first.before in (
+      told.0,
+      told.1,
+      told.2,
+      (
+        (one taken pending calls (waits_of mid) first.key first.stops h).call,
+        is_there taken pending calls (waits_of mid) first.key first.stops h number first.is_number,
+        its_end taken pending calls (waits_of mid) first.key first.stops h moment first.before,
+      ),
+    )
 
 -- the call that is taken from the queue ends
 pub is_ending : (mid taken : Timeline) (moment number : ℕ) (pending : Pending) (calls : List Call) → StandsWith calls (waits_of mid) mid

@@ -1,19 +1,17 @@
--- Where every call has ended, the calls are explained by object.
-use Rattle.std.proofs.Common.{◌≡◌, ℕ, inl, inr, true, List, [], map, replicate, arith, refl, sym, subst, ◌∙◌, ap, Option, Some, None, option_map}
+-- Live objects, and those of them of which no access waits.
+use Rattle.std.proofs.Common.{◌≡◌, ℕ, true, List, [], map, replicate, arith, refl, sym, subst, ◌∙◌, ap, Option, Some, None, option_map}
 use Rattle.std.specs.List.Sorted.{IsPermutation}
 use Rattle.std.proofs.lemmas.List.Sorted.{IsPermutation-refl}
 use Rattle.model_intervals.specs.Intervals.{Call}
-use Rattle.model_intervals.specs.Objects.{Object as AnObject, IsExplainedByObject, IsFairNew, accesses_of}
+use Rattle.model_intervals.specs.Objects.{Object as AnObject, accesses_of}
 use Rattle.model_intervals.specs.OverlappingCalls.{IsAt}
 use Rattle.history_overlaps.specs.Accesses.{is_access_of}
 use Rattle.history_overlaps.specs.Judges.{AccessJudge, IsExplained, IsJudged, live_of}
 use Rattle.history_overlaps.specs.declared.life.Life.{Life}
-use Rattle.history_overlaps.specs.Queues.{HasEnded, IsWaiting, key_of, object_of}
-use Rattle.history_overlaps.specs.Timelines.{Holds}
+use Rattle.history_overlaps.specs.Queues.{IsWaiting, object_of}
 use Rattle.history_overlaps.specs.declared.objects.NewObject.{NewObject}
 use Rattle.history_overlaps.specs.declared.pending.Pending.{Pending}
 use Rattle.history_overlaps.proofs.AccessOrders.{accesses_are, call_at}
-use Rattle.history_overlaps.proofs.BegunSteps.{all_places}
 use Rattle.history_overlaps.proofs.Follows.{idle_explained}
 
 -- the life of a live object
@@ -40,23 +38,3 @@ idle_object calls waits object None none idle =
       },
     )
 idle_object calls waits object (Some judge) follows idle = idle_explained calls waits object judge follows idle
-
-module _ (calls : List Call) (waits : ℕ → Option Pending) (lives : ℕ → Option Life) (starts : ℕ → Option ℕ) (cells serials freed : ℕ → Type 0)
-    (h : Holds calls waits lives starts cells serials freed) (none : (key : ℕ) → waits key ≡ None) where
-  over : (i : ℕ) (a : Call) → IsAt calls i a → HasEnded calls waits i
-  over i a is = (a, is, none (key_of a i))
-
-  pub is_explained : IsExplainedByObject calls
-  is_explained = record {
-    fair = all_places (λ call. IsFairNew call.entry.command call.entry.reply) calls (λ i a is. h.living.fair i a (over i a is) is);
-    serials_once = λ i j a b x y apart at_i at_j. h.living.serials_once i j a b x y apart (over i a at_i.0) (over j b at_j.0) at_i at_j;
-    apart = λ i j a b x y apart at_i at_j. h.living.apart i j a b x y apart (over i a at_i.0) (over j b at_j.0) at_i at_j;
-    each = λ i a x made. elim (h.living.made_is i a x (over i a made.0) made) [
-      | inr freed ↦ h.judges.settled i a x (over i a made.0) made freed
-      | inl alive ↦
-          let life = life_of lives x.cell x alive in
-          let own = idle_object calls waits life.0.object life.0.judge (h.judges.judged x.cell life.0 life.1)
-          (λ k b is access w. let gone = none (key_of b k) in let some = w.1 in cc (gone, some)) in
-          subst (λ (y : AnObject). IsExplained calls y) life.2 own
-    ];
-  }

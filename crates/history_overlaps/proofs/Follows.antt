@@ -8,19 +8,19 @@ use Rattle.model_intervals.specs.Objects.{ExplainsAccesses}
 use Rattle.model_intervals.specs.OverlappingCalls.{IsAt}
 use Rattle.history_object.specs.declared.access.Access.{Access}
 use Rattle.history_object.specs.ObjectBytes.{effect, first_state}
-use Rattle.history_object.specs.Following.{CanBegin, HasSome, IsJudgeOf, IsOpen}
+use Rattle.history_object.specs.Following.{CanBegin, HasSome, IsCallOf, IsJudgeOf, IsOpen}
 use Rattle.history_object.specs.TimedCalls.{ExplainsTimed, Timed}
 use Rattle.history_object.proofs.End.{open_is_call}
 use Rattle.history_object.proofs.Explained.{explained}
 use Rattle.history_object.proofs.Unexplained.{some_is_left}
-use Rattle.history_overlaps.specs.Accesses.{PlacedCall, is_access_of, placed_from, timed_accesses, timed_of}
+use Rattle.history_overlaps.specs.Accesses.{PlacedCall, access_of, is_access_of, placed_from, timed_accesses, timed_of}
 use Rattle.history_overlaps.specs.Judges.{AccessJudge, IsFollowed}
 use Rattle.history_overlaps.specs.Lives.{BeginFrom}
 use Rattle.history_overlaps.specs.Queues.{HasEnded, IsWaiting, MayBegin, key_of}
 use Rattle.history_overlaps.specs.declared.objects.NewObject.{NewObject}
 use Rattle.history_overlaps.specs.declared.pending.Pending.{Pending}
 use Rattle.history_overlaps.proofs.AccessOrders.{accesses_explained, placed_append, placed_at, tells, timed_explained}
-use Rattle.history_overlaps.proofs.CallPlaces.{at_below, at_one, at_same}
+use Rattle.history_overlaps.proofs.CallPlaces.{at_below, at_end, at_front, at_one, at_same}
 
 -- ---- the calls of the judge by their places
 
@@ -82,13 +82,14 @@ placed_other cell calls call other = placed_append 0 cell calls (call ∷ [])
 
 -- a new judge follows where there was no access
 pub follow_first : (calls : List Call) (waits : ℕ → Option Pending) (object : NewObject) (judge : AccessJudge) → placed_from 0 object.cell calls ≡ []
-    → IsJudgeOf effect (first_state object.len) [] judge → HasSome effect judge → IsFollowed calls waits object judge
-follow_first calls waits object judge none follows some = record {
+    → IsJudgeOf effect (first_state object.len) [] judge → HasSome effect judge → ((number : ℕ) → IsOpen judge number → ⊥) → IsFollowed calls waits object judge
+follow_first calls waits object judge none follows some none_open = record {
   follows = subst (λ xs. IsJudgeOf effect (first_state object.len) (map (timed_of object.address) xs) judge) (sym none) follows;
   some = some;
   is_open = λ i a is access. absurd (
       let found = access_timed 0 object.cell calls i a is access in
       let at = subst (λ (l : List PlacedCall). slice_get l found.0 ≡ Some (record { place = 0 + i; call = a })) none found.1 in nothing found.0 at);
+  is_call = λ i other is. absurd (none_open i (is.0, is.1));
 }
   where
     nothing : {p : PlacedCall} (k : ℕ) → slice_get [] k ≡ Some p → ⊥
@@ -107,6 +108,7 @@ module _ (calls : List Call) (call : Call) (waits waits' : ℕ → Option Pendin
       | inl old ↦ let o = h.is_open i a old access in let s = stays i a old in (λ opened. s.0 (o.0 opened), λ w. o.1 (s.1 w))
       | inr new ↦ absurd (let no = subst (λ (b : Call). is_access_of object.cell b ≡ false) new.1 other in cc (no, access))
     ];
+    is_call = λ i access is. let own = h.is_call i access is in (own.0, at_front calls (call ∷ []) i own.0 own.1, own.2);
   }
 
   -- an access may begin at the judge
@@ -137,9 +139,11 @@ module _ (calls : List Call) (call : Call) (waits waits' : ℕ → Option Pendin
   pub follow_access : (judge judge' : AccessJudge) (pending : Pending) → IsFollowed calls waits object judge → is_access_of object.cell call ≡ true
       → IsJudgeOf effect (first_state object.len)
       (timed_accesses object.cell object.address calls ++ timed_of object.address (record { place = length calls; call = call }) ∷ []) judge'
-      → HasSome effect judge' → ((n : ℕ) → IsOpen judge' n ↔ ((n ≡ length calls) ⊎ IsOpen judge n)) → waits' (key_of call (length calls)) ≡ Some pending
+      → HasSome effect judge' → ((n : ℕ) → IsOpen judge' n ↔ ((n ≡ length calls) ⊎ IsOpen judge n))
+      → ((n : ℕ) (other : Access) → IsCallOf judge' n other → ((n ≡ length calls) × (other ≡ access_of object.address call.entry.command call.entry.reply)) ⊎ IsCallOf judge n other)
+      → waits' (key_of call (length calls)) ≡ Some pending
       → IsFollowed (calls ++ call ∷ []) waits' object judge'
-  follow_access judge judge' pending h access follows some opens now = record {
+  follow_access judge judge' pending h access follows some opens calls_are now = record {
     follows = subst (λ xs. IsJudgeOf effect (first_state object.len) xs judge')
         (sym (ap (λ xs. map (timed_of object.address) xs) (placed_one object.cell calls call access)
         ∙ map-append (timed_of object.address) (placed_from 0 object.cell calls) (record { place = length calls; call = call } ∷ []))) follows;
@@ -156,6 +160,10 @@ module _ (calls : List Call) (call : Call) (waits waits' : ℕ → Option Pendin
         λ opened. (pending, subst (λ (b : Call). waits' (key_of b i) ≡ Some pending) new.1 (subst (λ (n : ℕ). waits' (key_of call n) ≡ Some pending) (sym new.0) now)),
         λ w. (opens i).1 (inl new.0),
       )
+    ];
+    is_call = λ i other is. elim (calls_are i other is) [
+      | inl new ↦ (call, subst (λ (n : ℕ). IsAt (calls ++ call ∷ []) n call) (sym new.0) (at_end calls call), new.1)
+      | inr old ↦ let own = h.is_call i other old in (own.0, at_front calls (call ∷ []) i own.0 own.1, own.2)
     ];
   }
 
@@ -175,13 +183,15 @@ module _ (calls : List Call) (waits waits' : ℕ → Option Pending) (p : ℕ) (
           let no = subst (λ (b : Call). is_access_of object.cell b ≡ false) this other in cc (no, access))
       | inr apart ↦ let o = h.is_open i a is access in let s = others i a is apart.1 in (λ opened. s.0 (o.0 opened), λ w. o.1 (s.1 w))
     ];
+    is_call = h.is_call;
   }
 
   -- the end of an access
   pub follow_end : (judge judge' : AccessJudge) → IsFollowed calls waits object judge
       → IsJudgeOf effect (first_state object.len) (timed_accesses object.cell object.address calls) judge' → HasSome effect judge'
-      → ((n : ℕ) → IsOpen judge' n ↔ (IsOpen judge n × (n ≢ p))) → IsFollowed calls waits' object judge'
-  follow_end judge judge' h follows some opens = record {
+      → ((n : ℕ) → IsOpen judge' n ↔ (IsOpen judge n × (n ≢ p))) → ((n : ℕ) (access : Access) → IsCallOf judge' n access → IsCallOf judge n access)
+      → IsFollowed calls waits' object judge'
+  follow_end judge judge' h follows some opens calls_are = record {
     follows = follows;
     some = some;
     is_open = λ i a is access. elim (eqb_tells i p) [
@@ -196,6 +206,7 @@ module _ (calls : List Call) (waits waits' : ℕ → Option Pending) (p : ℕ) (
         λ w. (opens i).1 (o.1 (s.1 w), apart.1),
       )
     ];
+    is_call = λ i access is. h.is_call i access (calls_are i access is);
   }
 
 -- ---- what the judge tells

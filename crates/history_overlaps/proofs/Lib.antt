@@ -20,6 +20,7 @@ mod Grouping
 mod InOrder
 mod JudgesBegin
 mod JudgesEnd
+mod KeptLoads
 mod KeyOrder
 mod KeyedAccesses
 mod KeyedCalls
@@ -31,6 +32,7 @@ mod LivesEnd
 mod LivesWrong
 mod MapSteps
 mod Mapped
+mod NoneCompleted
 mod ObjectAccesses
 mod OneOrder
 mod OpenCalls
@@ -48,3 +50,6 @@ mod SoFar
 mod StateAccess
 mod StateBegin
 mod StateEnd
+mod Stopped
+mod UndecidedTexts
+mod UnexplainedCalls

@@ -37,7 +37,7 @@ module _ (calls : List Call) (call : Call) (waits waits' : ℕ → Option Pendin
   followed_first : IsJudged calls waits old.object old.judge → IsFollowed calls waits old.object begun.first
   followed_first judged = elim begun.is_first [
     | inl own ↦ subst (λ (j : Option AccessJudge). IsJudged calls waits old.object j) own judged
-    | inr fresh ↦ follow_first calls waits old.object begun.first (subst (λ (j : Option AccessJudge). IsJudged calls waits old.object j) fresh.0 judged) fresh.1.follows fresh.1.some
+    | inr fresh ↦ follow_first calls waits old.object begun.first (subst (λ (j : Option AccessJudge). IsJudged calls waits old.object j) fresh.0 judged) fresh.1.follows fresh.1.some fresh.1.none_open
   ]
 
   pub judged_now : IsJudged calls waits old.object old.judge → IsJudged (calls ++ call ∷ []) waits' new.object new.judge
@@ -45,7 +45,7 @@ module _ (calls : List Call) (call : Call) (waits waits' : ℕ → Option Pendin
       let first = followed_first judged in
       let may_begin = access_may_begin calls call waits waits' old.object may stays begun.first first access in
       let follows = begun.follows (timed_accesses old.object.cell old.object.address calls) call.begin call.end first.follows may_begin in
-      let followed = follow_access calls call waits waits' old.object may stays begun.first begun.judge pending first access follows (begun.some first.some) begun.is_open starting.now in
+      let followed = follow_access calls call waits waits' old.object may stays begun.first begun.judge pending first access follows (begun.some first.some) begun.is_open begun.is_call starting.now in
       subst (λ (o : NewObject). IsJudged (calls ++ call ∷ []) waits' o new.judge) (sym same)
       (subst (λ (j : Option AccessJudge). IsJudged (calls ++ call ∷ []) waits' old.object j) (sym begun.now) followed)
 
@@ -139,7 +139,7 @@ module _ (calls : List Call) (waits waits' : ℕ → Option Pending) (key : ℕ)
               (follow_end calls waits waits' at.place at.call life.object at.there (waiting calls waits waits' key pending stop lives starts cells serials freed h)
               (it_waits_no_more calls waits waits' key pending h.queue stop.was stop.gone stop.others lives lives h.judges)
               (others_wait calls waits waits' key pending h.queue stop.was stop.gone stop.others lives lives h.judges)
-              ended.first ended.judge followed judge_follows (ended.some.0 some) ended.is_open))
+              ended.first ended.judge followed judge_follows (ended.some.0 some) ended.is_open ended.is_call))
 
       -- none is left
       pub access_end_wrong : left ≡ false → (moment : ℕ) → at.call.end < moment → CannotBe calls moment

@@ -65,7 +65,7 @@ own_order calls made numbers order are explains =
 -- the judge has followed the first accesses, and the others begin no earlier than the moment
 pub record IsFollowedTo {O : Type 0} (calls : List Call) (made : Made) (count : ℕ) (judge : OrderedJudge O State Access) : Type 0 where
   pub moment : ℕ
-  pub early : moment ≤ 2 ^ 64
+  pub early : moment ≤ 2 ^ 64 + 1
   pub up_to : IsUpTo made.len (take count (timed_accesses made.cell made.address calls)) moment judge
   pub later : (k : ℕ) (placed : PlacedCall) → count ≤ k → slice_get (placed_from 0 made.cell calls) k ≡ Some placed → moment ≤ placed.call.begin
 
@@ -151,15 +151,15 @@ both_first false b both = absurd (cc both)
 
 -- each access ends before the last moment
 pub ends_before_last : (calls : List TimedCall) (made : Made) (count k : ℕ) (timed : Timed Access) → All IsReadCall calls
-    → slice_get (take count (timed_accesses made.cell made.address (map plain_call calls))) k ≡ Some timed → timed.end < 2 ^ 64
+    → slice_get (take count (timed_accesses made.cell made.address (map plain_call calls))) k ≡ Some timed → timed.end < 2 ^ 64 + 1
 ends_before_last calls made count k timed read is =
     let first = among_first (timed_accesses made.cell made.address (map plain_call calls)) count k timed is in
     let found = mapped_at (timed_of made.address) (placed_from 0 made.cell (map plain_call calls)) k timed first.1 in
     let one = placed_at 0 made.cell (map plain_call calls) k found.0 found.1 in
     let back = mapped_at plain_call calls one.at found.0.call one.there in
     let readable = read_at calls one.at back.0 read back.1 in
-    let ends = readable.ends in
-    subst (λ (t : Timed Access). t.end < 2 ^ 64) found.2 (subst (λ (c : Call). c.end < 2 ^ 64) back.2 ends)
+    let ends : back.0.end < 2 ^ 64 + 1 = (let last = readable.ends in omega (arith, last)) in
+    subst (λ (t : Timed Access). t.end < 2 ^ 64 + 1) found.2 (subst (λ (c : Call). c.end < 2 ^ 64 + 1) back.2 ends)
 
 -- ---- steps of the judge
 
@@ -277,19 +277,19 @@ module _ (calls : List TimedCall) (made : Made) (count : ℕ) (all : length (num
       let numbers = length-map (placed_from 0 made.cell (map plain_call calls)) (λ (p : PlacedCall). p.place) in omega (arith, all, long, numbers))
 
   -- none is open after the last moment
-  pub none_open : {O : Type 0} (judge : OrderedJudge O State Access) → All IsReadCall calls → IsUpTo made.len (take count every) (2 ^ 64) judge
-      → AreOpenFrom (take count every) (2 ^ 64) judge.judge → (n : ℕ) → IsOpen judge.judge n → ⊥
+  pub none_open : {O : Type 0} (judge : OrderedJudge O State Access) → All IsReadCall calls → IsUpTo made.len (take count every) (2 ^ 64 + 1) judge
+      → AreOpenFrom (take count every) (2 ^ 64 + 1) judge.judge → (n : ℕ) → IsOpen judge.judge n → ⊥
   none_open judge read up_to open_from n opened =
       let found = open_is_call effect (first_state made.len) (take count every) judge.judge up_to.follows.follows n opened in
       let ends = ends_before_last calls made count found.0 found.1 read found.2 in
       let from = open_from found.0 found.1 found.2 (subst (λ (k : ℕ). IsOpen judge.judge k) (sym found.3) opened) in
       omega (arith, ends, from)
 
-  pub all_followed : {O : Type 0} (judge : OrderedJudge O State Access) → IsUpTo made.len (take count every) (2 ^ 64) judge
+  pub all_followed : {O : Type 0} (judge : OrderedJudge O State Access) → IsUpTo made.len (take count every) (2 ^ 64 + 1) judge
       → IsOrderedJudgeOf effect (first_state made.len) every judge
   all_followed judge up_to = subst (λ (cs : List (Timed Access)). IsOrderedJudgeOf effect (first_state made.len) cs judge) whole_list up_to.follows
 
-  pub refuted_at_last : {O : Type 0} (judge : OrderedJudge O State Access) → IsRefutedAt made.len (take count every) (2 ^ 64) judge → (order : List Call)
+  pub refuted_at_last : {O : Type 0} (judge : OrderedJudge O State Access) → IsRefutedAt made.len (take count every) (2 ^ 64 + 1) judge → (order : List Call)
       → ExplainsAccesses (map plain_call calls) made.cell made.len made.address order → ⊥
   refuted_at_last judge refuted order explains =
       let timed = timed_explained made.address made.cell made.len (map plain_call calls) order explains in
@@ -303,7 +303,7 @@ module _ (calls : List TimedCall) (made : Made) (count : ℕ) (all : length (num
 
   -- the order that the judge has found, if it has found one
   pub found_order : {O : Type 0} (judge : OrderedJudge O State Access) (found : Option (Vec ℕ)) → All IsReadCall calls
-      → IsUpTo made.len (take count every) (2 ^ 64) judge → AreOpenFrom (take count every) (2 ^ 64) judge.judge
+      → IsUpTo made.len (take count every) (2 ^ 64 + 1) judge → AreOpenFrom (take count every) (2 ^ 64 + 1) judge.judge
       → IfSome found (λ numbers. (start : State) (cs : List (Timed Access)) → IsOrderedJudgeOf effect start cs judge → ((number : ℕ) → IsOpen judge.judge number → ⊥)
       → (order : List (Timed Access)) × (numbers.items ≡ numbers_in order) × ExplainsTimed effect start cs order)
       → IfSome found (λ order. IsOwnOrder (map plain_call calls) made order.items)

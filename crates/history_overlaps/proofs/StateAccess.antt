@@ -17,13 +17,11 @@ use Rattle.history_overlaps.specs.Timelines.{Holds, StartsWaiting}
 use Rattle.history_overlaps.specs.declared.objects.NewObject.{NewObject}
 use Rattle.history_overlaps.specs.declared.pending.Pending.{Pending}
 use Rattle.history_overlaps.specs.declared.pending.Pending.TheVariants.{Made, Refused, Free as FreeEnds, Access}
-use Rattle.history_overlaps.proofs.AccessOrders.{tells}
 use Rattle.history_overlaps.proofs.BegunSteps.{access_begun, free_begun, free_is_no_new}
 use Rattle.history_overlaps.proofs.CallPlaces.{at_end, at_one, at_same}
 use Rattle.history_overlaps.proofs.Finish.{idle_object}
 use Rattle.history_overlaps.proofs.JudgesBegin.{access_begins, other_begins}
 use Rattle.history_overlaps.proofs.LivesBegin.{another_begins, free_begins, freed_front, made_front}
-use Rattle.history_overlaps.proofs.LivesEnd.{made_at_cell}
 use Rattle.history_overlaps.proofs.LivesWrong.{all_at}
 use Rattle.history_overlaps.proofs.QueueSteps.{ended_below, one_key, queue_begins, small_place}
 use Rattle.history_overlaps.proofs.StateBegin.{cells_stay, freed_stays, from, lives_same, named_front, to}
@@ -46,7 +44,7 @@ access_makes_none : (command : Command) (reply : Reply) → is_access command �
 access_makes_none (New cell len word) reply access x made = cc access
 access_makes_none command reply access x made = cc made
 
-access_frees_none : (command : Command) → is_access command ≡ true → IsFree command → ⊥
+pub access_frees_none : (command : Command) → is_access command ≡ true → IsFree command → ⊥
 access_frees_none (Free cell) access frees = cc access
 access_frees_none command access frees = frees
 

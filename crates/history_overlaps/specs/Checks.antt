@@ -1,20 +1,22 @@
 -- What is found of the text of a history of overlapping calls.
-use Rattle.std.specs.Prelude.{◌≡◌, ◌⊎◌, ℕ, ◌+◌, ◌^◌, ◌<◌, ◌≤◌, List, [], ◌∷◌, ◌++◌, Option, Some, None, Result, Ok, length}
+use Rattle.std.specs.Prelude.{◌≡◌, ◌⊎◌, ℕ, ◌+◌, ◌<◌, ◌≤◌, List, [], ◌∷◌, ◌++◌, Option, Some, None, Result, Ok, length, ◌≢◌, ◌^◌, Err}
 use Rattle.std.specs.Io.KnownBytes.{Consumes, IsAtEnd}
-use Rattle.model_intervals.specs.Completions.{HasCompletion, IsFirstWrong}
-use Rattle.model_intervals.specs.Intervals.{Call, IsLinearizable}
+use Rattle.model_intervals.specs.Completions.{EndsInTime, HasCompletion, IsFirstWrong, never}
+use Rattle.model_intervals.specs.Intervals.{Call}
 use Rattle.model_intervals.specs.OverlappingCalls.{IsAt, IsHistory}
+use Rattle.history_object.specs.declared.faults.JudgeFault.TheVariants.{Memory as NoMemory}
 use Rattle.history_reading.specs.CallInputs.{HasCome, HasRead}
 use Rattle.history_reading.specs.CallReadings.{OfText, OutOfOrder, calls_of}
 use Rattle.history_reading.specs.declared.faults.CallError.{CallError}
 use Rattle.history_reading.specs.declared.faults.CallError.TheVariants.{Text, Order, Read, Memory}
 use Rattle.history_reading.specs.declared.call_inputs.CallInput.{CallInput}
-use Rattle.history_overlaps.specs.Ends.{Past}
+use Rattle.history_overlaps.specs.Ends.{EndsAheadOf, Past}
 use Rattle.history_overlaps.specs.Flaws.{IsFlawAt}
-use Rattle.history_overlaps.specs.Lives.{CannotBe, NoneGoesOn}
+use Rattle.history_overlaps.specs.Lives.{NoneGoesOn}
 use Rattle.history_overlaps.specs.Misuses.{IsMisusedAt}
 use Rattle.history_overlaps.specs.Standing.{Stands, lives_of, waits_of}
 use Rattle.history_overlaps.specs.Timelines.{FewOpen}
+use Rattle.history_overlaps.specs.Undecided.{IsUndecidedText}
 use Rattle.history_overlaps.specs.declared.flaws.Flaw.{Flaw}
 use Rattle.history_overlaps.specs.declared.misuses.Misuse.{Misuse}
 use Rattle.history_overlaps.specs.declared.stops.Stop.{Stop}
@@ -24,39 +26,47 @@ use Rattle.history_overlaps.specs.declared.verdicts.CallVerdict.TheVariants.{Lin
 
 -- ---- verdicts
 
--- the text has no fault, and its calls, `entries` in number, are a history that some order explains
+-- the text has no fault, and its calls, `entries` in number, are a history that can be completed: some order explains
+-- the calls that ended, with some of those that were pending when the recording stopped
 pub record IsLinearizableText (text : List ℕ) (entries : ℕ) : Type 0 where
   pub calls : List Call
   pub reading : calls_of text ≡ record { calls = calls; fault = None }
   pub many : length calls ≡ entries
   pub history : IsHistory calls
-  pub explained : IsLinearizable calls
+  pub completed : HasCompletion calls (EndsInTime calls)
 
--- the calls of a text, up to its first fault, are no history, or no order explains these calls
+-- the calls of a text, up to its first fault, are no history, or they can't be completed: no order explains those that
+-- ended, with any of those that were pending when the recording stopped
 abbrev pub IsUnexplainedText : List ℕ → Type 0
-IsUnexplainedText text = IsHistory (calls_of text).calls → IsLinearizable (calls_of text).calls → ⊥
+IsUnexplainedText text = IsHistory (calls_of text).calls → HasCompletion (calls_of text).calls (EndsInTime (calls_of text).calls) → ⊥
 
 -- the calls are the first ones of the text
 abbrev pub AreFirstCalls : List Call → List ℕ → Type 0
 AreFirstCalls calls text = (later : List Call) × ((calls_of text).calls ≡ calls ++ later)
 
+-- the call at this place ended before some call began
+abbrev pub EndedBeforeOne : List Call → ℕ → Type 0
+EndedBeforeOne calls i = (a b : Call) × (j : ℕ) × IsAt calls i a × IsAt calls j b × (a.end < b.begin)
+
 -- the call in this line breaks this rule of use, among the first calls of the text that was read. The calls of no text
--- that begins so are a history
+-- that begins so are a history. The rule is found broken when the last of these calls begins; those that ended before
+-- some call began can be completed, so none of them is wrong
 pub record IsMisusedText (text : List ℕ) (line : ℕ) (misuse : Misuse) : Type 0 where
   pub calls : List Call
   pub number : ℕ
   pub in_line : line ≡ number + 2
   pub misused : IsMisusedAt calls number misuse
+  pub completed : HasCompletion calls (EndedBeforeOne calls)
   pub first : (more : List ℕ) → AreFirstCalls calls (text ++ more)
   pub none : (more : List ℕ) → IsHistory (calls_of (text ++ more)).calls → ⊥
 
--- these are the first calls of the text, and no order explains the calls of the text, up to its first fault
+-- these are the first calls of the text, and the calls of the text, up to its first fault, can't be completed
 abbrev pub IsUnexplainedFrom : List Call → List ℕ → Type 0
 IsUnexplainedFrom calls text = AreFirstCalls calls text × IsUnexplainedText text
 
 -- the call in this line is the first wrong one by its end, and its answer has this flaw, among the first calls of the
--- text that was read. These are a history, so no rule of use is broken. No order explains the calls of any text that
--- begins so, or the whole text was read and no order explains its calls
+-- text that was read. These are a history, so no rule of use is broken. The calls of no text that begins so can
+-- be completed, or the whole text was read and its calls can't be completed
 pub record IsFlawedText (left' : Option (List ℕ)) (text : List ℕ) (line : ℕ) (flaw : Flaw) : Type 0 where
   pub calls : List Call
   pub number : ℕ
@@ -66,16 +76,12 @@ pub record IsFlawedText (left' : Option (List ℕ)) (text : List ℕ) (line : �
   pub flawed : IsFlawAt calls number flaw
   pub unexplained : ((more : List ℕ) → IsUnexplainedFrom calls (text ++ more)) ⊎ (IsUnexplainedFrom calls text × IsAtEnd left')
 
--- what a verdict claims of the text that was read. `Undecided` claims nothing
-abbrev pub HasJudged : Option (List ℕ) → Option (List ℕ) → CallVerdict → Type 0
-HasJudged left left' (Linearizable entries) = (text : List ℕ) × Consumes left left' text × IsAtEnd left' × IsLinearizableText text entries
-HasJudged left left' (Misused line misuse) = (text : List ℕ) × Consumes left left' text × IsMisusedText text line misuse
-HasJudged left left' (Flawed line flaw) = (text : List ℕ) × Consumes left left' text × IsFlawedText left' text line flaw
-HasJudged left left' (Undecided line fault) = Unit {0}
-
--- the call at this place ended before some call began
-abbrev pub EndedBeforeOne : List Call → ℕ → Type 0
-EndedBeforeOne calls i = (a b : Call) × (j : ℕ) × IsAt calls i a × IsAt calls j b × (a.end < b.begin)
+-- what a verdict claims of the text that was read, if `most` configurations are allowed
+abbrev pub HasJudged : ℕ → Option (List ℕ) → Option (List ℕ) → CallVerdict → Type 0
+HasJudged most left left' (Linearizable entries) = (text : List ℕ) × Consumes left left' text × IsAtEnd left' × IsLinearizableText text entries
+HasJudged most left left' (Misused line misuse) = (text : List ℕ) × Consumes left left' text × IsMisusedText text line misuse
+HasJudged most left left' (Flawed line flaw) = (text : List ℕ) × Consumes left left' text × IsFlawedText left' text line flaw
+HasJudged most left left' (Undecided line fault) = (text : List ℕ) × Consumes left left' text × IsUndecidedText left' text most line fault
 
 -- the calls are a history, and those of them can be completed that ended before some call began. So none of these is
 -- wrong, and whether another one is depends on calls that may follow
@@ -102,7 +108,7 @@ pub record IsKept (t : Timeline) (calls : List Call) : Type 0 where
   pub moment : ℕ
   pub past : Past calls (waits_of t) moment
   pub reached : (moment ≡ 0) ⊎ ((i : ℕ) × (a : Call) × IsAt calls i a × (moment ≤ a.begin))
-  pub ends : (i : ℕ) (a : Call) → IsAt calls i a → (a.begin ≤ a.end) × (a.end < 2 ^ 64)
+  pub ends : (i : ℕ) (a : Call) → IsAt calls i a → (a.begin ≤ a.end) × (a.end ≤ never)
 
 -- the timeline represents the calls that were read of the history
 pub record HasTaken (history : CallInput) (t : Timeline) (left left' : Option (List ℕ)) : Type 0 where
@@ -113,19 +119,22 @@ pub record HasTaken (history : CallInput) (t : Timeline) (left left' : Option (L
 -- what a verdict claims if it is told before a call begins, where these calls have begun
 abbrev pub IsJudgedBefore : List Call → Call → CallVerdict → Type 0
 IsJudgedBefore calls call (Misused line misuse) = (number : ℕ) × (line ≡ number + 2) × IsMisusedAt (calls ++ call ∷ []) number misuse
-    × NoneGoesOn (calls ++ call ∷ []) call.begin
+    × NoneGoesOn (calls ++ call ∷ []) call.begin × HasCompletion (calls ++ call ∷ []) (EndedBeforeOne (calls ++ call ∷ []))
 IsJudgedBefore calls call (Flawed line flaw) = (number : ℕ) × (line ≡ number + 2) × IsHistory calls × IsFirstWrong calls number × IsFlawAt calls number flaw
-    × CannotBe calls call.begin
+    × EndsAheadOf calls number call.begin × EndsInTime calls number
 IsJudgedBefore calls call (Linearizable entries) = ⊥
 IsJudgedBefore calls call (Undecided line fault) = ⊥
 
--- what a verdict claims if it is told when all these calls have ended
+-- what a verdict claims if it is told when those of these calls have ended that weren't pending when the recording
+-- stopped
 abbrev pub IsJudgedAtEnd : List Call → CallVerdict → Type 0
 IsJudgedAtEnd calls (Flawed line flaw) = (number : ℕ) × (line ≡ number + 2) × IsHistory calls × IsFirstWrong calls number × IsFlawAt calls number flaw
-    × (IsLinearizable calls → ⊥)
+    × (HasCompletion calls (EndsInTime calls) → ⊥)
 IsJudgedAtEnd calls verdict = ⊥
 
--- the verdict is the one that was found, or it is `Undecided`
+-- the verdict is the one that was found, or it is `Undecided` at the stop that was found. A failed allocation is no
+-- verdict
 abbrev pub IsTold : Result (Option CallVerdict) Stop → CallVerdict → Type 0
-IsTold found (Undecided line fault) = Unit {0}
+IsTold found (Undecided line fault) = (found ≡ Ok (Some (Undecided line fault)))
+    ⊎ ((stop : Stop) × (found ≡ Err stop) × (line ≡ stop.number + 2) × (fault ≡ stop.fault) × (fault ≢ NoMemory))
 IsTold found verdict = found ≡ Ok (Some verdict)

@@ -7,11 +7,12 @@ use Rattle.model_intervals.specs.OverlappingCalls.{IsAt}
 use Rattle.history_object.specs.Following.{IsOpen}
 use Rattle.history_overlaps.specs.Flaws.{IsFlawAt}
 use Rattle.history_overlaps.specs.Judges.{AccessJudge}
-use Rattle.history_overlaps.specs.LifeSteps.{HasEndedAt}
+use Rattle.history_overlaps.specs.LifeSteps.{HasEndedAt, IsToldAtEnd}
 use Rattle.history_overlaps.specs.Lives.{CannotBe}
 use Rattle.history_overlaps.specs.Queues.{HasEnded, object_of}
 use Rattle.history_overlaps.specs.Standing.{IsSetAt, Stands, lives_of, waits_of}
 use Rattle.history_overlaps.specs.Timelines.{FewOpen, StopsWaiting}
+use Rattle.history_overlaps.specs.declared.life.AccessEnd.{AccessEnd}
 use Rattle.history_overlaps.specs.declared.life.Life.{Life}
 use Rattle.history_overlaps.specs.declared.objects.NewObject.{NewObject}
 use Rattle.history_overlaps.specs.declared.pending.Pending.{Pending}
@@ -44,6 +45,10 @@ abbrev pub HasEndedIn : (ℕ → Option Life) → (ℕ → Option Life) → ℕ 
 HasEndedIn lives lives' cell number left = (old new : Life) × (lives cell ≡ Some old) × IsSetAt lives lives' cell (Some new) × (new.object ≡ old.object)
     × HasEndedAt old new number left
 
+-- the same of the live object of the cell
+abbrev pub IsToldIn : (ℕ → Option Life) → ℕ → ℕ → AccessEnd → Type 0
+IsToldIn lives cell number end = (life : Life) × (lives cell ≡ Some life) × IsToldAtEnd life number end
+
 -- no access of this number to a live object of the cell is pending
 abbrev pub IsGone : (ℕ → Option Life) → ℕ → ℕ → Type 0
 IsGone lives cell number = (life : Life) (judge : AccessJudge) → lives cell ≡ Some life → life.judge ≡ Some judge → IsOpen judge number → ⊥
@@ -63,10 +68,16 @@ pub record IsFirstBefore (waits waits' : ℕ → Option Pending) (moment number 
 abbrev pub Past : List Call → (ℕ → Option Pending) → ℕ → Type 0
 Past calls waits moment = (i : ℕ) (a : Call) → HasEnded calls waits i → IsAt calls i a → a.end < moment
 
--- the call that is found is the first wrong one by its end, and its answer has the flaw that is found. No calls that
--- begin from the moment on continue the calls so far to a history that is explained by object
+-- the call at this place ends before the moment
+abbrev pub EndsAheadOf : List Call → ℕ → ℕ → Type 0
+EndsAheadOf calls place moment = (a : Call) × IsAt calls place a × (a.end < moment)
+
+-- the call that is found is the first wrong one by its end, which is before the moment, and its answer has the flaw
+-- that is found. No calls that begin from the moment on continue the calls so far to a history that is explained by
+-- object
 abbrev pub IsRuledOut : Timeline → ℕ → Found → Type 0
 IsRuledOut t moment found = (calls : List Call) → Stands calls t → IsFirstWrong calls found.number × IsFlawAt calls found.number found.flaw × CannotBe calls moment
+    × EndsAheadOf calls found.number moment
 
 -- the calls that end before the moment are ended in the timeline, and no flaw was found: the timeline represents the
 -- same calls before and after

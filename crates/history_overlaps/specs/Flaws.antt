@@ -1,14 +1,14 @@
 -- Answers that no allocator may give.
-use Rattle.std.specs.Prelude.{◌≡◌, ◌≢◌, ℕ, ◌≤◌, true, List, Some}
-use Rattle.model_words.specs.declared.commands.Reply.TheVariants.{Refused as RefusedReply}
+use Rattle.std.specs.Prelude.{◌≡◌, ◌≢◌, ℕ, ◌≤◌, List, Some}
 use Rattle.model_words.specs.declared.refusals.Refusal.{Refusal}
 use Rattle.model_intervals.specs.Intervals.{Call}
-use Rattle.model_intervals.specs.Objects.{Object, IsFairNew, IsMadeAt, Meet, is_access, object_made}
+use Rattle.model_intervals.specs.Objects.{Object, IsFairNew, IsMadeAt, Meet, object_made}
 use Rattle.model_intervals.specs.OverlappingCalls.{IsAt, IsNew}
 use Rattle.text_words.specs.RecordedWords.{plain_reply}
 use Rattle.text_words.specs.declared.recorded.RecordedReply.{RecordedReply}
 use Rattle.text_words.specs.declared.recorded.RecordedReply.TheVariants.{Refused}
 use Rattle.history_overlaps.specs.Lives.{NoneFrees}
+use Rattle.history_overlaps.specs.Possible.{IsUnexplainedCall}
 use Rattle.history_overlaps.specs.declared.flaws.Flaw.{Flaw}
 use Rattle.history_overlaps.specs.declared.flaws.Flaw.TheVariants.{SerialAgain, NoByte, StrangeRefusal, Overlaps, NoOrder}
 
@@ -49,7 +49,7 @@ IsFlawOf calls number call SerialAgain = IsSerialAgain calls number call
 IsFlawOf calls number call (NoByte answer) = IsUnfair call answer
 IsFlawOf calls number call (StrangeRefusal refusal) = IsUnfair call (Refused refusal)
 IsFlawOf calls number call (Overlaps serial place) = IsOverlapping calls call serial place
-IsFlawOf calls number call (NoOrder unexplained) = is_access call.entry.command ≡ true
+IsFlawOf calls number call (NoOrder unexplained) = IsUnexplainedCall calls call unexplained
 
 -- the answer of the call at this place has the flaw
 abbrev pub IsFlawAt : List Call → ℕ → Flaw → Type 0

@@ -5,8 +5,8 @@ use Rattle.model_intervals.specs.Objects.{Object, ExplainsAccesses, IsMadeAt}
 use Rattle.model_intervals.specs.OverlappingCalls.{IsAt}
 use Rattle.history_object.specs.ObjectBytes.{State, effect, first_state}
 use Rattle.history_object.specs.declared.access.Access.{Access as AnAccess}
-use Rattle.history_object.specs.Following.{HasSome, IsJudgeOf, IsOpen, TimedStanding}
-use Rattle.history_overlaps.specs.Accesses.{is_access_of, placed_from, timed_accesses}
+use Rattle.history_object.specs.Following.{HasSome, IsCallOf, IsJudgeOf, IsOpen, TimedStanding}
+use Rattle.history_overlaps.specs.Accesses.{access_of, is_access_of, placed_from, timed_accesses}
 use Rattle.history_overlaps.specs.Lives.{IsFreed}
 use Rattle.history_overlaps.specs.Queues.{HasEnded, IsWaiting, object_of}
 use Rattle.history_overlaps.specs.declared.life.Life.{Life}
@@ -22,12 +22,14 @@ AccessJudge = TimedStanding State AnAccess
 abbrev pub live_of : (ℕ → Option Life) → ℕ → Option Object
 live_of lives cell = option_map (λ life. object_of life.object) (lives cell)
 
--- the judge has followed the accesses to the object: exactly the waiting accesses are open, and some configuration is
--- left
+-- the judge has followed the accesses to the object: exactly the waiting accesses are open, each under its place, and
+-- some configuration is left
 pub record IsFollowed (calls : List Call) (waits : ℕ → Option Pending) (object : NewObject) (judge : AccessJudge) : Type 0 where
   pub follows : IsJudgeOf effect (first_state object.len) (timed_accesses object.cell object.address calls) judge
   pub some : HasSome effect judge
   pub is_open : (i : ℕ) (a : Call) → IsAt calls i a → is_access_of object.cell a ≡ true → IsOpen judge i ↔ IsWaiting waits a i
+  pub is_call : (i : ℕ) (access : AnAccess) → IsCallOf judge i access
+      → (a : Call) × IsAt calls i a × (access ≡ access_of object.address a.entry.command a.entry.reply)
 
 -- if the object has a judge, the judge has followed the accesses to it; otherwise there was no access
 abbrev pub IsJudged : List Call → (ℕ → Option Pending) → NewObject → Option AccessJudge → Type 0

@@ -13,6 +13,9 @@ pub mod OrderTexts
 pub mod Orders
 pub mod OwnOrders
 pub mod Points
+pub mod Possible
 pub mod Queues
 pub mod Standing
+pub mod Stops
 pub mod Timelines
+pub mod Undecided

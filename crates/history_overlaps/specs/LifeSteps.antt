@@ -2,9 +2,10 @@
 use Rattle.std.specs.Prelude.{◌≡◌, ◌≢◌, ◌⊎◌, ◌↔◌, ℕ, Bool, true, false, List, [], ◌∷◌, ◌++◌, Some, None, IsTrue}
 use Rattle.history_object.specs.ObjectBytes.{effect, first_state}
 use Rattle.history_object.specs.declared.access.Access.{Access as AnAccess}
-use Rattle.history_object.specs.Following.{CanBegin, HasSome, IsJudgeOf, IsOpen}
+use Rattle.history_object.specs.Following.{CanBegin, HasSome, IsCallOf, IsJudgeOf, IsOpen}
 use Rattle.history_object.specs.TimedCalls.{Timed}
 use Rattle.history_overlaps.specs.Judges.{AccessJudge}
+use Rattle.history_overlaps.specs.Possible.{IsUnexplainedBy}
 use Rattle.history_overlaps.specs.declared.life.AccessEnd.{AccessEnd}
 use Rattle.history_overlaps.specs.declared.life.AccessEnd.TheVariants.{Explained, Unexplained}
 use Rattle.history_overlaps.specs.declared.life.Life.{Life}
@@ -39,6 +40,7 @@ pub record HasBegun (old new : Life) (number : ℕ) (access : AnAccess) : Type 0
       → IsJudgeOf effect (first_state old.object.len) (calls ++ record { number = number; begin = begin; end = end; call = access } ∷ []) judge
   pub is_open : (n : ℕ) → IsOpen judge n ↔ ((n ≡ number) ⊎ IsOpen first n)
   pub some : HasSome effect first → HasSome effect judge
+  pub is_call : (n : ℕ) (other : AnAccess) → IsCallOf judge n other → ((n ≡ number) × (other ≡ access)) ⊎ IsCallOf first n other
 
 -- the object's judge has followed the end of the access `number`, and `left` is whether some configuration is left
 pub record HasEndedAt (old new : Life) (number : ℕ) (left : Bool) : Type 0 where
@@ -51,3 +53,10 @@ pub record HasEndedAt (old new : Life) (number : ℕ) (left : Bool) : Type 0 whe
       → IsJudgeOf effect (first_state old.object.len) calls judge
   pub is_open : (n : ℕ) → IsOpen judge n ↔ (IsOpen first n × (n ≢ number))
   pub some : IsTrue left ↔ HasSome effect judge
+  pub is_call : (n : ℕ) (access : AnAccess) → IsCallOf judge n access → IsCallOf first n access
+
+-- if no configuration is left at the end of the access `number`, its answer and the possible answers are returned
+abbrev pub IsToldAtEnd : Life → ℕ → AccessEnd → Type 0
+IsToldAtEnd old number Explained = Unit {0}
+IsToldAtEnd old number (Unexplained told) = (judge : AccessJudge) × (access : AnAccess) × (old.judge ≡ Some judge) × IsCallOf judge number access
+    × IsUnexplainedBy old.object.address old.object.len access told

@@ -12,6 +12,7 @@ ghost use Rattle.history_number_set.specs.Ranges.{Has};
 ghost use Rattle.history_overlaps.specs.Accesses.{access_of};
 ghost use Rattle.history_overlaps.specs.Begins.{IsFirstAccess, IsNewPending, IsStray, first_access};
 ghost use Rattle.history_overlaps.specs.Standing.{HasBegunIn, HasBegunSo, IsMisusedSo, lives_of};
+ghost use Rattle.history_overlaps.specs.Stops.{CannotBeginIn, IsStoppedSo, IsWithinLimits};
 ghost use Rattle.history_overlaps.specs.Timelines.{FewOpen};
 
 use crate::life::Life;
@@ -33,6 +34,7 @@ impl Timeline {
         ensures waiting { self.new.waiting ≡ self.old.waiting }
         ensures begun { IfOk result (HasBegunSo self.old self.new number (plain_entry entry.now)) }
         ensures misused { IfErr result (IsMisusedSo self.old number (plain_entry entry.now)) }
+        ensures stopped { IfErr result (IsStoppedSo self.old number (plain_entry entry.now)) }
         ensures few { OnOk result (FewOpen (lives_of self.new) (number + 1)) }
     {
         match &entry.command {
@@ -62,6 +64,7 @@ impl Timeline {
         ensures misused { IfErr result
             (λ not_begun. (word : ℕ) (entry : Entry) → entry.command ≡ Command.New cell len word
             → IsMisusedSo self.old number entry not_begun) }
+        ensures within { IfErr result IsWithinLimits }
         ensures lives { self.new.lives ≡ self.old.lives }
     {
         if self.cells.contains(cell) {
@@ -82,6 +85,7 @@ impl Timeline {
         ensures misused { IfErr result
             (λ not_begun. (entry : Entry) → entry.command ≡ Command.Free cell
             → IsMisusedSo self.old number entry not_begun) }
+        ensures within { IfErr result IsWithinLimits }
         ensures few { OnOk result
             ((count : ℕ) → FewOpen (lives_of self.old) count → FewOpen (lives_of self.new) count) }
     {
@@ -116,6 +120,10 @@ impl Timeline {
             (λ not_begun. is_access (plain_command entry.now.command) ≡ true
             → cell_of (plain_command entry.now.command) ≡ cell
             → IsMisusedSo self.old number (plain_entry entry.now) not_begun) }
+        ensures stopped { IfErr result
+            (λ not_begun. is_access (plain_command entry.now.command) ≡ true
+            → cell_of (plain_command entry.now.command) ≡ cell
+            → IsStoppedSo self.old number (plain_entry entry.now) not_begun) }
         ensures few { OnOk result (FewOpen (lives_of self.new) (number + 1)) }
     {
         if !begin_in(&mut self.lives, self.alloc, number, cell, entry)? {
@@ -183,6 +191,7 @@ fn begin_in(
         → HasBegunIn (get nat_cmp lives.old) (get nat_cmp lives.new) cell number (plain_entry entry.now)) }
     ensures none { IfOk result
         (λ there. there ≡ false → (get nat_cmp lives.old cell ≡ None) × (lives.new ≡ lives.old)) }
+    ensures stopped { IfErr result (CannotBeginIn (get nat_cmp lives.old) cell) }
 {
     let Some(life) = lives.get_mut(&cell) else {
         return Ok(false);

@@ -24,7 +24,7 @@ pub fn is_legal_order(alloc: Global, calls: &[TimedCall], order: &[u32]) -> Resu
         if call.end < begun {
             return Ok(false);
         }
-        begun = call.begin.max(begun);
+        begun = u128::from(call.begin).max(begun);
         if memory.judge(line, &call.entry)?.is_some() {
             return Ok(false);
         }

@@ -1,6 +1,7 @@
 //! The verdict on a history of overlapping calls from a device.
 ghost use Rattle.std.specs.Prelude.{◌≡◌, ◌+◌, ◌<◌, ◌^◌, ◌++◌, ◌∷◌, [], ℕ, List, Err, true, false, IfErr, IfOk, IfSome, IsNone, None, Ok, OnOk, length};
-ghost use Rattle.model_intervals.specs.Intervals.{Call, IsLinearizable};
+ghost use Rattle.model_intervals.specs.Completions.{EndsInTime, HasCompletion};
+ghost use Rattle.model_intervals.specs.Intervals.{Call};
 ghost use Rattle.model_intervals.specs.OverlappingCalls.{IsHistory};
 ghost use Rattle.history_reading.specs.CallReadings.{is_in_order};
 ghost use Rattle.history_reading.specs.CallWords.{IsReadCall, plain_call};
@@ -8,6 +9,7 @@ ghost use Rattle.history_reading.specs.declared.faults.CallError.{CallError};
 ghost use Rattle.history_reading.specs.CallInputs.{IsFresh};
 ghost use Rattle.history_overlaps.specs.Checks.{HasJudged, HasNotJudged, IsJudgedAtEnd, IsJudgedBefore, IsKept, IsTold};
 ghost use Rattle.history_overlaps.specs.Standing.{lives_of};
+ghost use Rattle.history_overlaps.specs.Stops.{StopsAt, StopsEnd};
 ghost use Rattle.history_overlaps.specs.Timelines.{FewOpen};
 
 use crate::misuses::NotBegun;
@@ -15,12 +17,9 @@ use crate::stops::Stop;
 use crate::timeline::Timeline;
 use crate::verdicts::CallVerdict;
 use history_object::JudgeFault;
-use history_reading::{CallError, CallInput, TimedCall};
+use history_reading::{CallError, CallInput, NEVER, TimedCall};
 use std::alloc::Global;
 use text_devices::Source;
-
-/// A moment after the end of every call: 2^64, because ends have 64 bits.
-const LAST_MOMENT: u128 = 18_446_744_073_709_551_616;
 
 /// Judges the history of overlapping calls in the input. The verdict is `Undecided` if more than `most` configurations
 /// of an object are met at the end of a call. It is also `Undecided` if more than 64 accesses to an object are pending.
@@ -38,7 +37,7 @@ pub fn check_calls<I: Source>(
 ) -> Result<CallVerdict, CallError>
     requires { I.has_failed input.old ≡ false }
     ensures ok { OnOk result (I.has_failed input.new ≡ false) }
-    ensures judged { IfOk result (HasJudged (I.remaining input.old) (I.remaining input.new)) }
+    ensures judged { IfOk result (HasJudged most (I.remaining input.old) (I.remaining input.new)) }
     ensures fault { IfErr result (HasNotJudged (I.remaining input.old) (I.remaining input.new)) }
     ensures read { result ≡ Err CallError.Read → I.has_failed input.new ≡ true }
     ensures failed { I.has_failed input.new ≡ true → result ≡ Err CallError.Read }
@@ -59,7 +58,7 @@ fn judge_calls<I: Source>(
     requires fresh { IsFresh history.old }
     requires kept { IsKept timeline.old [] }
     ensures ok { OnOk result (I.has_failed input.new ≡ false) }
-    ensures judged { IfOk result (HasJudged (I.remaining input.old) (I.remaining input.new)) }
+    ensures judged { IfOk result (HasJudged most (I.remaining input.old) (I.remaining input.new)) }
     ensures fault { IfErr result (HasNotJudged (I.remaining input.old) (I.remaining input.new)) }
     ensures read { result ≡ Err CallError.Read → I.has_failed input.new ≡ true }
     ensures failed { I.has_failed input.new ≡ true → result ≡ Err CallError.Read }
@@ -80,6 +79,7 @@ fn judge_calls<I: Source>(
 /// Returns the verdict if there is one, or if the judge stopped without a failed allocation. Returns `None` if neither
 /// happened. The error is `Memory` if the judge stopped because an allocation failed.
 fn decided(found: Result<Option<CallVerdict>, Stop>) -> Result<Option<CallVerdict>, CallError>
+    requires { IfErr found (λ stop. stop.number + 2 < 2 ^ 32) }
     ensures none { IfOk result (λ verdict. IsNone verdict → found ≡ Ok None) }
     ensures told { IfOk result (λ verdict. IfSome verdict (IsTold found)) }
     ensures error { IfErr result (λ error. error ≡ CallError.Memory) }
@@ -88,7 +88,7 @@ fn decided(found: Result<Option<CallVerdict>, Stop>) -> Result<Option<CallVerdic
         Ok(verdict) => Ok(verdict),
         Err(stop) => match stop.fault {
             JudgeFault::Memory => Err(CallError::Memory),
-            fault => Ok(Some(CallVerdict::Undecided(stop.number.saturating_add(2), fault))),
+            fault => Ok(Some(CallVerdict::Undecided(stop.number + 2, fault))),
         },
     }
 }
@@ -114,6 +114,9 @@ impl Timeline {
             (λ found. IfSome found (λ verdict. (calls : List Call) → length calls ≡ number → IsKept self.old calls
             → is_in_order calls (plain_call call.now) ≡ true
             → IsJudgedBefore calls (plain_call call.now) verdict)) }
+        ensures stopped { IfErr result
+            (λ stop. (calls : List Call) → length calls ≡ number → IsKept self.old calls
+            → is_in_order calls (plain_call call.now) ≡ true → StopsAt calls (plain_call call.now) most stop) }
     {
         if let Some(found) = self.end_before(u128::from(call.begin), most)? {
             return Ok(Some(CallVerdict::Flawed(found.number + 2, found.flaw)));
@@ -127,19 +130,22 @@ impl Timeline {
         }
     }
 
-    /// Handles the remaining ends, of `count` calls. Returns the verdict if a flaw is found, and `None` otherwise. The
-    /// error is the reason why the judge stops.
+    /// Handles the remaining ends, of `count` calls. Calls that were pending when the recording stopped don't end.
+    /// Returns the verdict if a flaw is found, and `None` otherwise. The error is the reason why the judge stops.
     fn finish(&mut self, count: u32, most: usize) -> Result<Option<CallVerdict>, Stop>
         requires lines { count + 1 < 2 ^ 32 }
         requires kept { (calls : List Call) × (length calls ≡ count) × IsKept self.old calls }
         ensures linearizable { IfOk result
             (λ found. IsNone found → (calls : List Call) → IsKept self.old calls
-            → IsHistory calls × IsLinearizable calls) }
+            → IsHistory calls × HasCompletion calls (EndsInTime calls)) }
         ensures judged { IfOk result
             (λ found. IfSome found
             (λ verdict. (calls : List Call) → IsKept self.old calls → IsJudgedAtEnd calls verdict)) }
+        ensures stopped { IfErr result
+            (λ stop. (calls : List Call) → IsKept self.old calls
+            → (stop.number < length calls) × StopsEnd calls stop.number most stop.fault) }
     {
-        let Some(found) = self.end_before(LAST_MOMENT, most)? else {
+        let Some(found) = self.end_before(NEVER, most)? else {
             return Ok(None);
         };
         Ok(Some(CallVerdict::Flawed(found.number + 2, found.flaw)))

@@ -1,12 +1,13 @@
 //! Handles the ends of calls.
-ghost use Rattle.std.specs.Prelude.{◌≡◌, ◌+◌, ◌≤◌, ◌↔◌, ℕ, IfOk, IfSome, IsNone, IsTrue};
+ghost use Rattle.std.specs.Prelude.{◌≡◌, ◌+◌, ◌≤◌, ◌↔◌, ℕ, IfErr, IfOk, IfSome, IsNone, IsTrue};
 ghost use Rattle.std.specs.Ordering.{nat_cmp};
 ghost use Rattle.std.specs.BTreeMap.{get};
 ghost use Rattle.model_history.specs.Recorded.{IsOwnRefusal, any_allocator};
-ghost use Rattle.history_overlaps.specs.Ends.{AreDisjoint, HasEndedIn, IsGone, IsNearest, IsOverlapped, Misses};
+ghost use Rattle.history_overlaps.specs.Ends.{AreDisjoint, HasEndedIn, IsGone, IsNearest, IsOverlapped, IsToldIn, Misses};
 ghost use Rattle.history_overlaps.specs.Flaws.{IsRefusalFlaw};
 ghost use Rattle.history_overlaps.specs.LifeSteps.{is_explained};
 ghost use Rattle.history_overlaps.specs.Standing.{HasEndedSo, IsEnding, IsFlawed, lives_of, starts_of};
+ghost use Rattle.history_overlaps.specs.Stops.{CannotEndIn, IsStoppedEnd};
 ghost use Rattle.history_overlaps.specs.Timelines.{FewOpen};
 ghost use Rattle.history_overlaps.specs.declared.pending.Pending.{Pending};
 
@@ -35,6 +36,7 @@ impl Timeline {
         ensures waiting { self.new.waiting ≡ self.old.waiting }
         ensures ended { IfOk result (λ flaw. IsNone flaw → HasEndedSo self.old self.new number pending) }
         ensures flawed { IfOk result (λ flaw. IfSome flaw (IsFlawed self.old number pending)) }
+        ensures stopped { IfErr result (IsStoppedEnd self.old number pending most) }
         ensures few { IfOk result
             (λ flaw. IsNone flaw → (count : ℕ) → FewOpen (lives_of self.old) count
             → FewOpen (lives_of self.new) count) }
@@ -107,6 +109,7 @@ impl Timeline {
         ensures waiting { self.new.waiting ≡ self.old.waiting }
         ensures ended { IfOk result (λ flaw. IsNone flaw → HasEndedSo self.old self.new number (Pending.Access cell)) }
         ensures flawed { IfOk result (λ flaw. IfSome flaw (IsFlawed self.old number (Pending.Access cell))) }
+        ensures stopped { IfErr result (IsStoppedEnd self.old number (Pending.Access cell) most) }
         ensures few { IfOk result
             (λ flaw. IsNone flaw → (count : ℕ) → FewOpen (lives_of self.old) count
             → FewOpen (lives_of self.new) count) }
@@ -152,7 +155,9 @@ fn end_in(
     ensures ended { IfOk result
         (λ ended. IfSome ended
         (λ end. HasEndedIn (get nat_cmp lives.old) (get nat_cmp lives.new) cell number (is_explained end))) }
+    ensures told { IfOk result (λ ended. IfSome ended (IsToldIn (get nat_cmp lives.old) cell number)) }
     ensures none { IfOk result (λ ended. IsNone ended → IsGone (get nat_cmp lives.old) cell number) }
+    ensures stopped { IfErr result (CannotEndIn (get nat_cmp lives.old) cell number most) }
 {
     match lives.get_mut(&cell) {
         Some(life) => life.end(alloc, number, most),

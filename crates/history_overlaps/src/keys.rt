@@ -28,7 +28,7 @@ pub enum Rank {
 #[derive(Clone, Copy, PartialEq, Eq, PartialOrd, Ord)]
 pub struct Key {
     /// The moment of the call's effect.
-    pub moment: u64,
+    pub moment: u128,
     /// The rank among the calls at one moment.
     pub rank: Rank,
     /// The place of an access in the order of its object's accesses.
@@ -75,7 +75,7 @@ fn key_of(number: u32, call: &TimedCall, points: &[Point]) -> Key
 {
     let (moment, place) = match points.get(number as usize) {
         Some(point) => (point.moment, point.place),
-        None => (call.begin, 0),
+        None => (u128::from(call.begin), 0),
     };
     Key {
         moment,

@@ -1,7 +1,8 @@
 //! `Life`, a live object and the judge of its accesses.
-ghost use Rattle.std.specs.Prelude.{◌≡◌, IfOk, IfSome, IsNone, OnOk, Some};
+ghost use Rattle.std.specs.Prelude.{◌≡◌, IfErr, IfOk, IfSome, IsNone, OnOk, Some};
 ghost use Rattle.history_overlaps.specs.Judges.{AccessJudge};
-ghost use Rattle.history_overlaps.specs.LifeSteps.{HasBegun, HasEndedAt, HasJudge, is_explained};
+ghost use Rattle.history_overlaps.specs.LifeSteps.{HasBegun, HasEndedAt, HasJudge, IsToldAtEnd, is_explained};
+ghost use Rattle.history_overlaps.specs.Stops.{CannotBegin, CannotEnd};
 ghost use Rattle.history_object.specs.Following.{IsOpen};
 
 use crate::objects::NewObject;
@@ -36,6 +37,7 @@ impl Life {
         requires fresh { (judge : AccessJudge) → self.old.judge ≡ Some judge → IsOpen judge number → ⊥ }
         ensures object { self.new.object ≡ self.old.object }
         ensures begun { OnOk result (HasBegun self.old self.new number access) }
+        ensures stopped { IfErr result (CannotBegin self.old) }
     {
         self.give_judge(alloc)?;
         match &mut self.judge {
@@ -62,7 +64,7 @@ impl Life {
     /// access is pending.
     ///
     /// The error is `TooMany` if more than `most` configurations are met beside the parts of the object that are set
-    /// aside, and `Memory` if an allocation fails.
+    /// aside, or are kept as parts are joined. It is `Memory` if an allocation fails.
     pub fn end(
         &mut self,
         alloc: Global,
@@ -72,9 +74,11 @@ impl Life {
         ensures object { self.new.object ≡ self.old.object }
         ensures ended { IfOk result
             (λ ended. IfSome ended (λ end. HasEndedAt self.old self.new number (is_explained end))) }
+        ensures told { IfOk result (λ ended. IfSome ended (IsToldAtEnd self.old number)) }
         ensures none { IfOk result
             (λ ended. IsNone ended → (judge : AccessJudge) → self.old.judge ≡ Some judge → IsOpen judge number → ⊥) }
         ensures unchanged { IfOk result (λ ended. IsNone ended → self.new ≡ self.old) }
+        ensures stopped { IfErr result (CannotEnd self.old number most) }
     {
         let Some(judge) = &mut self.judge else {
             return Ok(None);
@@ -85,7 +89,7 @@ impl Life {
         match judge.end(alloc, number, most)? {
             None => Ok(Some(AccessEnd::Explained)),
             Some(refutation) => Ok(Some(AccessEnd::Unexplained(unexplained_access(
-                self.object.address,
+                self.object,
                 refutation,
             )))),
         }

@@ -15,8 +15,8 @@ use history_object::{JudgeFault, ObjectAccesses, ObjectBytes, OrderedJudge};
 use history_reading::TimedCall;
 use std::alloc::Global;
 
-/// A moment after the end of every call: 2^64, because ends have 64 bits.
-const LAST_MOMENT: u128 = 18_446_744_073_709_551_616;
+/// A moment after the end of every call, pending ones among them: 2^64 + 1.
+const LAST_MOMENT: u128 = 18_446_744_073_709_551_617;
 
 /// Returns an order of effects that explains the accesses to an object, as the numbers of the calls. Returns `None` if
 /// no order does. `numbers` has the numbers of the accesses, in ascending order.
@@ -79,7 +79,7 @@ fn end_before(
         → HasStoppedAt len timeds most fault) }
 {
     while let Some(number) = first_to_end(judge.numbers(), calls) {
-        if u128::from(end_of(calls, number)) >= moment {
+        if end_of(calls, number) >= moment {
             return Ok(true);
         }
         if !judge.end(alloc, number, most)? {
@@ -118,7 +118,7 @@ fn sooner(calls: &[TimedCall], first: Option<u32>, other: Option<u32>) -> Option
 }
 
 /// Returns the end of the call with this number, or 0 if there is no such call.
-fn end_of(calls: &[TimedCall], number: u32) -> u64
+fn end_of(calls: &[TimedCall], number: u32) -> u128
     ensures { result ≡ end_of calls.now number }
 {
     match calls.get(number as usize) {

@@ -23,7 +23,7 @@ use std::collections::BTreeMap;
 #[derive(Clone, Copy)]
 pub struct Point {
     /// The moment.
-    pub moment: u64,
+    pub moment: u128,
     /// The place of an access in the order of its object's accesses.
     pub place: u64,
 }
@@ -115,7 +115,7 @@ fn own_point(call: &TimedCall) -> Point
 {
     let moment = match &call.entry.command {
         SpeltCommand::New(_, _, _) => call.end,
-        _ => call.begin,
+        _ => u128::from(call.begin),
     };
     Point { moment, place: 0 }
 }
@@ -132,7 +132,7 @@ fn place_accesses(calls: &[TimedCall], order: &[u32], points: &mut Vec<Point>)
     let mut moment = 0;
     for (place, number) in order.iter().enumerate() {
         let number = *number as usize;
-        moment = calls[number].begin.max(moment);
+        moment = u128::from(calls[number].begin).max(moment);
         points[number] = Point {
             moment,
             place: place as u64,

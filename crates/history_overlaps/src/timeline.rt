@@ -10,6 +10,7 @@ ghost use Rattle.history_number_set.specs.Ranges.{Has};
 ghost use Rattle.history_overlaps.specs.Ends.{AreEnded, IsFirstBefore, IsRuledOut, NoneBefore, Past};
 ghost use Rattle.history_overlaps.specs.Queues.{MayBegin};
 ghost use Rattle.history_overlaps.specs.Standing.{IsMisusedSo, Stands, lives_of, waits_of};
+ghost use Rattle.history_overlaps.specs.Stops.{IsStoppedBefore, IsStoppedSo};
 ghost use Rattle.history_overlaps.specs.Timelines.{FewOpen};
 
 use crate::life::Life;
@@ -61,18 +62,21 @@ impl Timeline {
     }
 
     /// Handles the start of the next call. `number` is the number of calls that began before this call. `end` and
-    /// `entry` are the end and the entry of this call.
+    /// `entry` are the end and the entry of this call. The end is 2^64 if the call was pending when the recording
+    /// stopped.
     ///
     /// The error is `Misused` if this call breaks a rule of use, or if this is a `free` and an access to the object is
     /// pending, which then breaks a rule. It is `TooManyPending` if 64 accesses to the call's object are already
     /// pending, and `Memory` if an allocation fails. After an error, the timeline must not be used.
-    pub fn begin(&mut self, number: u32, end: u64, entry: &RecordedEntry) -> Result<(), NotBegun>
+    pub fn begin(&mut self, number: u32, end: u128, entry: &RecordedEntry) -> Result<(), NotBegun>
+        requires in_time { end ≤ 2 ^ 64 }
         requires effect { HasEffect (plain_command entry.now.command) (plain_reply entry.now.reply) }
         requires few { FewOpen (lives_of self.old) number }
         ensures stands { OnOk result ((calls : List Call) (begin : ℕ) → length calls ≡ number → Stands calls self.old
             → MayBegin calls (waits_of self.old) (record { begin = begin; end = end; entry = plain_entry entry.now })
             → Stands (calls ++ record { begin = begin; end = end; entry = plain_entry entry.now } ∷ []) self.new) }
         ensures misused { IfErr result (IsMisusedSo self.old number (plain_entry entry.now)) }
+        ensures stopped { IfErr result (IsStoppedSo self.old number (plain_entry entry.now)) }
         ensures past { OnOk result
             ((calls : List Call) (call : Call) (moment : ℕ) → length calls ≡ number → call.end ≡ end
             → Past calls (waits_of self.old) moment
@@ -80,7 +84,7 @@ impl Timeline {
         ensures few { OnOk result (FewOpen (lives_of self.new) (number + 1)) }
     {
         let pending = self.begun(number, entry)?;
-        let key = u128::from(end) * NUMBERS + u128::from(number);
+        let key = end * NUMBERS + u128::from(number);
         set(&mut self.waiting, key, pending)?;
         Ok(())
     }
@@ -96,6 +100,7 @@ impl Timeline {
         ensures ended { IfOk result
             (λ found. IsNone found → AreEnded self.old self.new moment × NoneBefore (waits_of self.new) moment) }
         ensures flawed { IfOk result (λ found. IfSome found (IsRuledOut self.old moment)) }
+        ensures stopped { IfErr result (IsStoppedBefore self.old moment most) }
     {
         while let Some((number, pending)) = first_before(&mut self.waiting, moment) {
             match self.ended(number, pending, most) {

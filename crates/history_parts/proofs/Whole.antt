@@ -2,15 +2,17 @@
 use Rattle.std.proofs.Common.{◌≡◌, ◌≢◌, ◌↔◌, inl, inr, ℕ, zero, suc, Bool, false, List, [], ◌∷◌, Option, Some, None, Result, Ok, Err, OnOk, OnErr, slice_get, slice_set, ap, sym, subst, ◌∙◌}
 use Rattle.std.specs.Option.{IfSome}
 use Rattle.std.proofs.lemmas.Bool.Decides.{eqb_tells}
+use Rattle.std.proofs.lemmas.Option.{slice_get_within}
 use Rattle.history_object.specs.declared.access.Access.{Access}
 use Rattle.history_object.specs.declared.configuration.Configuration.{Configuration}
 use Rattle.history_object.specs.Carried.{IsKept}
-use Rattle.history_object.specs.Following.{EndsAtPlace, HasMoreAtEnd, HasSome, IsOpen, IsRefutedOf, TakesPlace, TimedStanding}
+use Rattle.history_object.specs.Following.{EndsAtPlace, HasMoreAtEnd, HasSome, IsCallOf, IsOpen, IsRefutedOf, TakesPlace, TimedStanding}
 use Rattle.history_object.specs.ObjectBytes.{State, conflict, effect, reads}
 use Rattle.history_object.specs.Standings.{Begins, CanGoOn, CanPass, Ends, Event, HasPassed, call_at}
 use Rattle.history_object.specs.declared.refutation.Refutation.{Refutation}
 use Rattle.history_object.proofs.Followed.{IsFollowedOn, IsFollowedToEnd, begin_is_followed, end_is_followed}
 use Rattle.history_object.proofs.Passing.{begin_passes}
+use Rattle.history_object.proofs.Places.{get_set_here, get_set_other}
 use Rattle.history_object.proofs.PlaceLists.{called_other}
 use Rattle.history_object.proofs.Swapping.{accesses_read, accesses_swap}
 use Rattle.history_parts.specs.declared.part.Part.{Part}
@@ -164,6 +166,25 @@ module _ (number : ℕ) (old joined left new : TimedStanding State Access) (part
         subst (λ (numbers : List (Option ℕ)). ((place : ℕ) × (slice_get numbers place ≡ Some (Some n))) ↔ (((place : ℕ) × (slice_get old.numbers place ≡ Some (Some n))) × (n ≢ number)))
         (sym sets.numbers)
         (subst (λ (numbers : List (Option ℕ)). IsOpen left n ↔ (((place : ℕ) × (slice_get numbers place ≡ Some (Some n))) × (n ≢ number))) joins.numbers (opens n))
+
+    -- each of them under its number
+    pub end_calls : (n : ℕ) (access : Access) → IsCallOf (whole new parts') n access → IsCallOf (whole old parts) n access
+    end_calls n access (place, is_number, is_call) =
+        let numbers : slice_get (slice_set joined.numbers ends.place None) place ≡ Some (Some n) =
+        subst (λ (xs : List (Option ℕ)). slice_get xs place ≡ Some (Some n)) (sets.numbers ∙ ends.numbers) is_number in
+        let pending : slice_get (slice_set joined.standing.pending ends.place None) place ≡ Some (Some access) =
+        subst (λ (xs : List (Option Access)). slice_get xs place ≡ Some (Some access)) (sets.pending ∙ ends.pending) is_call in
+        elim (eqb_tells ends.place place) [
+          | inl same ↦ absurd (
+              let free = get_set_here joined.numbers ends.place None (slice_get_within joined.numbers ends.place (Some number) ends.here) in
+              let here = subst (λ (q : ℕ). slice_get (slice_set joined.numbers ends.place None) q ≡ Some (Some n)) (sym same.1) numbers in cc (free, here))
+          | inr other ↦ (
+            place,
+            subst (λ (xs : List (Option ℕ)). slice_get xs place ≡ Some (Some n)) joins.numbers (sym (get_set_other joined.numbers ends.place place None other.1) ∙ numbers),
+            subst (λ (xs : List (Option Access)). slice_get xs place ≡ Some (Some access)) joins.pending
+                (sym (get_set_other joined.standing.pending ends.place place None other.1) ∙ pending),
+          )
+        ]
 
     -- the whole has a configuration just where the judge without the parts has one
     pub end_some : HasSome effect left ↔ HasSome effect (whole new parts')

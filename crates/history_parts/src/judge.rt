@@ -2,7 +2,7 @@
 ghost use Rattle.std.specs.Prelude.{◌≡◌, ◌≢◌, ◌↔◌, ◌⊎◌, ◌++◌, ◌∷◌, [], ℕ, List, Err, IfErr, IfOk, IfSome, IsNone, IsTrue, OnErr, OnOk};
 ghost use Rattle.history_object.specs.declared.access.Access.{Access as AnAccess};
 ghost use Rattle.history_object.specs.declared.faults.JudgeFault.{JudgeFault};
-ghost use Rattle.history_object.specs.Following.{CanBegin, HasSome, IsFull, IsJudgeOf, IsOpen, TakesPlace};
+ghost use Rattle.history_object.specs.Following.{CanBegin, HasSome, IsCallOf, IsFull, IsJudgeOf, IsOpen, TakesPlace};
 ghost use Rattle.history_object.specs.ObjectBytes.{State, effect, first_state};
 ghost use Rattle.history_object.specs.TimedCalls.{Timed};
 ghost use Rattle.history_parts.specs.Parts.{HasMoreBeside, HasMoreJoined, IsRefutedBeside};
@@ -89,10 +89,13 @@ impl PartedJudge {
             ((start : State) (calls : List (Timed AnAccess)) → IsJudgeOf effect start calls self.old
             → IsJudgeOf effect start calls self.new) }
         ensures open { OnOk result ((n : ℕ) → IsOpen self.new n ↔ (IsOpen self.old n × (n ≢ number))) }
+        ensures calls { OnOk result
+            ((n : ℕ) (access : AnAccess) → IsCallOf self.new n access → IsCallOf self.old n access) }
         ensures some { IfOk result (λ ended. IsNone ended ↔ HasSome effect self.new) }
         ensures refuted { IfOk result (λ ended. IfSome ended (IsRefutedBeside self.old number)) }
         ensures many { result ≡ Err JudgeFault.TooMany
             → HasMoreJoined self.old.standing.kept most ⊎ HasMoreBeside self.old number most }
+        ensures not_full { result ≡ Err JudgeFault.TooManyPending → ⊥ }
     {
         let called = self.called;
         self.called = true;

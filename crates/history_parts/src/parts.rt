@@ -47,6 +47,7 @@ pub fn join(
     ensures free { OnOk result (AreFree judge.new.standing.pending (stores_of parts.new.items)) }
     ensures many { result ≡ Err JudgeFault.TooMany
         → HasMoreJoined (products effect judge.old.standing.kept (stores_of parts.old.items)) most }
+    ensures not_full { result ≡ Err JudgeFault.TooManyPending → ⊥ }
 {
     if !called {
         return Ok(());

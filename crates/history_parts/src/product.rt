@@ -22,6 +22,7 @@ pub fn product(
     ensures all { IfOk result
         (λ all. (d : Configuration State) → IsKept all d ↔ IsOfProduct effect kept.now stores.now d) }
     ensures many { result ≡ Err JudgeFault.TooMany → HasMoreThan most (product effect kept.now stores.now) }
+    ensures not_full { result ≡ Err JudgeFault.TooManyPending → ⊥ }
 {
     let mut all = Pool::new(alloc);
     for place in 0..kept.len() {

@@ -49,7 +49,7 @@ test_of_effect (Addr cell) (At address) has = refl
 test_of_effect command reply has = absurd has
 
 -- the cell of a command of a history has 32 bits
-cell_below : (command : SpeltCommand) → IsWithin 4294967295 140737488355328 281474976710655 command → cell_of (plain_command command) < many_cells
+pub cell_below : (command : SpeltCommand) → IsWithin 4294967295 140737488355328 281474976710655 command → cell_of (plain_command command) < many_cells
 unfolding many_cells
 cell_below (SpeltNew cell len word) within = omega (arith, within.0)
 cell_below (SpeltPut cell off bytes) within = omega (arith, within.0)

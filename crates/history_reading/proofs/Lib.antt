@@ -4,6 +4,7 @@ pub mod CallLines
 pub mod CallOrders
 pub mod EntryInputs
 pub mod LinesRead
+pub mod PendingCalls
 pub mod QuickEntries
 pub mod Readings
 pub mod Sizes

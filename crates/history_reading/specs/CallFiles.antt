@@ -1,6 +1,7 @@
 -- Reading the lines of a history of overlapping calls. The format is this project's own choice.
-use Rattle.std.specs.Prelude.{ℕ, ◌||◌, not, nat_lt, Bool, true, false, List, [], ◌∷◌, Result, Ok, Err, codes, length}
+use Rattle.std.specs.Prelude.{ℕ, ◌||◌, if◌then◌else◌, not, nat_lt, Bool, true, false, List, [], ◌∷◌, Result, Ok, Err, codes, length}
 use Rattle.std.specs.List.{list_any}
+use Rattle.model_intervals.specs.Completions.{never}
 use Rattle.model_intervals.specs.Intervals.{Call}
 use Rattle.model_jobs.specs.JobFiles.{are_same, header_in, is_empty, number_in}
 use Rattle.model_words.specs.Words.{◌>>=◌, or_refuse, refuse_if}
@@ -10,6 +11,7 @@ use Rattle.model_words.specs.declared.commands.Reply.{Reply}
 use Rattle.model_words.specs.declared.commands.Reply.TheVariants.{Object as Made, Done, Bytes, At, Refused}
 use Rattle.model_words.specs.declared.faults.FaultKind.{FaultKind}
 use Rattle.model_words.specs.declared.faults.FaultKind.TheVariants.{Word}
+use Rattle.model_words.specs.declared.refusals.Refusal.TheVariants.{NoPages}
 use Rattle.text_fields.specs.Lines.{bytes_fit, line_fields}
 use Rattle.history_reading.specs.HistoryFiles.{arrow_split, command_in}
 use Rattle.text_words.specs.ReplyWords.{answer_in}
@@ -31,14 +33,23 @@ pub record Asked : Type 0 where
   pub end : ℕ
   pub command : Command
 
--- `W BEGIN END COMMAND`: the end is at least the begin
+-- whether the field in the place of an end marks a call that was pending when the recording stopped
+abbrev pub is_pending_mark : List ℕ → Bool
+is_pending_mark field = are_same field (codes "-")
+
+-- the end of a call that begins at this moment: it is at least the begin, and it is `never` if the call was pending
+-- when the recording stopped
+abbrev pub end_in : ℕ → List ℕ → Result ℕ FaultKind
+end_in from field = if is_pending_mark field then Ok never else number_in from 18446744073709551615 field
+
+-- `W BEGIN END COMMAND`
 abbrev pub call_asked_in : List (List ℕ) → Result Asked FaultKind
 call_asked_in [] = Err Word
 call_asked_in (worker ∷ []) = Err Word
 call_asked_in (worker ∷ begin ∷ []) = Err Word
 call_asked_in (worker ∷ begin ∷ end ∷ []) = Err Word
 call_asked_in (worker ∷ begin ∷ end ∷ word ∷ fields) =
-    number_in 0 65535 worker >>= λ asking. number_in 0 18446744073709551615 begin >>= λ from. number_in from 18446744073709551615 end >>= λ to.
+    number_in 0 65535 worker >>= λ asking. number_in 0 18446744073709551615 begin >>= λ from. end_in from end >>= λ to.
     object_command_in word fields >>= λ command. Ok (record { worker = asking; begin = from; end = to; command = command })
 
 -- whether the command may have this answer and the answer shows its effect: only a `new` may be refused
@@ -64,11 +75,34 @@ answered asked reply =
 abbrev pub call_of : List (List ℕ) → List (List ℕ) → Result Call FaultKind
 call_of before behind = call_asked_in before >>= λ asked. effect_in asked.command behind >>= λ reply. Ok (answered asked reply)
 
+-- a stand-in for the answer of a call that was pending when the recording stopped. The answer isn't known and is never
+-- compared. The stand-in shows an effect, as the answer of each call of a history does
+abbrev pub unknown_reply : Command → Reply
+unknown_reply (New cell len word) = Refused NoPages
+unknown_reply (Get cell off len) = Bytes (record { items = [] })
+unknown_reply (Addr cell) = At 0
+unknown_reply command = Done
+
+-- whether these are the fields of a call that was pending when the recording stopped: the third is `-`
+abbrev pub is_pending : List (List ℕ) → Bool
+is_pending [] = false
+is_pending (worker ∷ []) = false
+is_pending (worker ∷ begin ∷ []) = false
+is_pending (worker ∷ begin ∷ end ∷ fields) = is_pending_mark end
+
+-- the pending call of these fields, `W BEGIN - COMMAND`, or its first fault from left to right
+abbrev pub pending_call : List (List ℕ) → Result Call FaultKind
+pending_call fields = call_asked_in fields >>= λ asked. Ok (answered asked (unknown_reply asked.command))
+
+-- the call of these fields, which has an answer, or its fault
+abbrev pub answered_call : List (List ℕ) → Result Call FaultKind
+answered_call fields = or_refuse Word (arrow_split fields) >>= λ parts. call_of parts.0 parts.1
+
 -- the call of these fields, at most 37 and none of them empty, or its fault
 abbrev pub call_fields : List (List ℕ) → Result Call FaultKind
 call_fields fields =
     refuse_if Word (list_any is_empty fields) >>= λ _. refuse_if Word (nat_lt 37 (length fields)) >>= λ _.
-    or_refuse Word (arrow_split fields) >>= λ parts. call_of parts.0 parts.1
+    (if is_pending fields then pending_call fields else answered_call fields)
 
 -- the call of a line, without the line's end, or its fault
 abbrev pub call_in : List ℕ → Result Call FaultKind

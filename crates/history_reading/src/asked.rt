@@ -1,11 +1,12 @@
 //! Reads `W BEGIN END COMMAND`: a worker's command, and the times at which its call began and ended.
-ghost use Rattle.std.specs.Prelude.{◌≡◌};
-ghost use Rattle.history_reading.specs.CallFiles.{call_asked_in, is_object_word, object_command_in};
-ghost use Rattle.history_reading.specs.CallWords.{IsAskedRead};
+ghost use Rattle.std.specs.Prelude.{◌≡◌, IfErr, IfOk, Err, Ok};
+ghost use Rattle.history_reading.specs.CallFiles.{call_asked_in, end_in, is_object_word, is_pending_mark, object_command_in};
+ghost use Rattle.history_reading.specs.CallWords.{IsAskedRead, IsReadEnd};
 ghost use Rattle.text_fields.specs.Commands.{IsReadAs};
 ghost use Rattle.text_fields.specs.Lines.{texts};
 ghost use Rattle.text_fields.specs.declared.commands.Dialect.{Dialect};
 
+use crate::NEVER;
 use model_words::FaultKind;
 use text_fields::commands::{Dialect, SpeltCommand, command_of};
 use text_fields::lines::is_word;
@@ -19,11 +20,11 @@ const MAX_WORKER: u32 = 65_535;
 pub(crate) struct AskedCall {
     pub worker: u32,
     pub begin: u64,
-    pub end: u64,
+    pub end: u128,
     pub command: SpeltCommand,
 }
 
-/// Reads the fields of a call's line before `->`.
+/// Reads the fields of a call's line before `->`, or all fields of a pending call's line.
 ///
 /// The error is WORD if the worker, the start, the end or the word of the command is missing. Otherwise it is that of
 /// the leftmost fault.
@@ -35,7 +36,7 @@ pub(crate) fn call_asked_of(fields: &[&[u8]]) -> Result<AskedCall, FaultKind>
     };
     let worker = number32(*worker, 0, MAX_WORKER)?;
     let begin = number(*begin, 0, u64::MAX)?;
-    let end = number(*end, begin, u64::MAX)?;
+    let end = end_of(*end, begin)?;
     let command = object_command_of(*word, fields)?;
     Ok(AskedCall {
         worker,
@@ -43,6 +44,26 @@ pub(crate) fn call_asked_of(fields: &[&[u8]]) -> Result<AskedCall, FaultKind>
         end,
         command,
     })
+}
+
+/// Reads the end of a call that began at `begin`. It is `NEVER` if the field is `-`. The error is NUMBER if the field
+/// is neither `-` nor a number that is at least `begin`.
+fn end_of(field: &[u8], begin: u64) -> Result<u128, FaultKind>
+    ensures ok { IfOk result (IsReadEnd begin field.now) }
+    ensures err { IfErr result (λ kind. end_in begin field.now ≡ Err kind) }
+{
+    if is_pending_mark(field) {
+        return Ok(NEVER);
+    }
+    let end = number(field, begin, u64::MAX)?;
+    Ok(u128::from(end))
+}
+
+/// Whether the field, in the place of an end, marks a call that was pending when the recording stopped.
+pub(crate) fn is_pending_mark(field: &[u8]) -> bool
+    ensures { result ≡ is_pending_mark field.now }
+{
+    is_word(field, b"-")
 }
 
 /// Reads the command with this word and these fields. The error is WORD if the command doesn't name one object by its

@@ -2,17 +2,18 @@
 ghost use Rattle.std.specs.Prelude.{◌≡◌, ◌⊎◌, ◌<◌, ◌++◌, ◌∷◌, [], Ok, Err, Some, None, true, false, length, IfOk, IfErr, IfSome, IsNone, OnOk, OnErr};
 ghost use Rattle.std.specs.List.{list_any};
 ghost use Rattle.model_jobs.specs.JobFiles.{is_empty};
-ghost use Rattle.history_reading.specs.CallFiles.{call_head_in, call_in, call_of, effect_in, has_effect};
+ghost use Rattle.history_reading.specs.CallFiles.{call_head_in, call_in, call_of, effect_in, has_effect, is_pending, pending_call, unknown_reply};
 ghost use Rattle.history_reading.specs.CallWords.{IsCallRead, IsReadCall, plain_call};
 ghost use Rattle.text_fields.specs.Commands.{plain_command};
 ghost use Rattle.text_fields.specs.Lines.{line_fields, texts};
 ghost use Rattle.history_reading.specs.HistoryFiles.{arrow_split};
-ghost use Rattle.text_words.specs.RecordedWords.{IsReplyRead, plain_reply};
+ghost use Rattle.text_words.specs.RecordedWords.{IsNarrow, IsReplyRead, plain_reply};
 
 use crate::TimedCall;
-use crate::asked::call_asked_of;
+use crate::asked::{call_asked_of, is_pending_mark};
 use crate::entries::arrow_split;
-use model_words::FaultKind;
+use arrayvec::ArrayVec;
+use model_words::{FaultKind, Refusal};
 use text_fields::commands::SpeltCommand;
 use text_fields::lines::{check_bytes, fields_of, fields_up_to, header};
 use text_words::{RecordedEntry, RecordedReply, reply_of};
@@ -43,17 +44,19 @@ pub fn read_call_head(line: &[u8]) -> Result<(), FaultKind>
     Ok(())
 }
 
-/// Reads the line of a call, `W BEGIN END COMMAND -> ANSWER`, without its line end.
+/// Reads the line of a call, without its line end: `W BEGIN END COMMAND -> ANSWER`, or `W BEGIN - COMMAND` if the call
+/// was pending when the recording stopped.
 ///
 /// The error is the first of these that applies:
 ///
 /// - LONG_LINE, if the line has more than 1,024 bytes.
 /// - BYTE, if a byte isn't from 20 to 7e (hexadecimal).
-/// - WORD, if a field is empty, if there are more than 37 fields, or if no field is `->`.
+/// - WORD, if a field is empty, if there are more than 37 fields, or if no field is `->` and the third
+///   field isn't `-`.
 ///
 /// Otherwise the error is that of the leftmost fault, as in `history 1`. Two faults are added. The error is NUMBER if
 /// END is below BEGIN. It is WORD if the command doesn't name one object by its cell, or if the command can't have the
-/// answer. Only a `new` may be refused.
+/// answer. Only a `new` may be refused. A pending call has no `->` and no answer, which count as fields of its command.
 pub fn read_call(line: &[u8]) -> Result<TimedCall, FaultKind>
     ensures ok { IfOk result (λ call. call_in line.now ≡ Ok (plain_call call)) }
     ensures err { IfErr result (λ kind. call_in line.now ≡ Err kind) }
@@ -61,8 +64,51 @@ pub fn read_call(line: &[u8]) -> Result<TimedCall, FaultKind>
 {
     check_bytes(line)?;
     let fields = fields_up_to::<MAX_CALL_FIELDS>(line)?;
+    if is_pending(fields.as_slice()) {
+        return pending_call_of(fields.as_slice());
+    }
     let (before, behind) = arrow_split(fields.as_slice()).ok_or(FaultKind::Word)?;
     call_of(before, behind)
+}
+
+/// Whether these are the fields of a call that was pending when the recording stopped: the third is `-`.
+fn is_pending(fields: &[&[u8]]) -> bool
+    ensures { result ≡ is_pending (texts fields.now) }
+{
+    match fields {
+        [_, _, end, ..] => is_pending_mark(*end),
+        _ => false,
+    }
+}
+
+/// Reads a call that was pending when the recording stopped. The error is that of the leftmost fault.
+fn pending_call_of(fields: &[&[u8]]) -> Result<TimedCall, FaultKind>
+    ensures { IsCallRead (pending_call (texts fields.now)) result }
+{
+    let asked = call_asked_of(fields)?;
+    let reply = unknown_reply(&asked.command);
+    Ok(TimedCall {
+        begin: asked.begin,
+        end: asked.end,
+        entry: RecordedEntry {
+            worker: asked.worker,
+            command: asked.command,
+            reply,
+        },
+    })
+}
+
+/// A stand-in for the unknown answer of a pending call.
+fn unknown_reply(command: &SpeltCommand) -> RecordedReply
+    ensures reply { plain_reply result ≡ unknown_reply (plain_command command.now) }
+    ensures narrow { IsNarrow result }
+{
+    match command {
+        SpeltCommand::New(..) => RecordedReply::Refused(Refusal::NoPages),
+        SpeltCommand::Get(..) => RecordedReply::Bytes(ArrayVec::new()),
+        SpeltCommand::Addr(_) => RecordedReply::At(0),
+        _ => RecordedReply::Done,
+    }
 }
 
 /// Reads the call whose line has the fields `before` in front of `->` and the fields `behind` after it. The error is

@@ -1,9 +1,9 @@
 //! Reads recorded histories: the commands that workers gave to any allocator, and its answers.
 //!
 //! There are two kinds of history. The entries of a `history 1` are in order. The calls of a `history 2` overlap, and
-//! each has the times at which it began and ended. Cells, lengths, offsets and addresses have wider ranges than in a
-//! job file. In contracts, entries and calls are those of the reference memory (called plain memory in the code) and of
-//! `model_intervals`.
+//! each has the times at which it began and ended, or was pending when the recording stopped. Cells, lengths, offsets
+//! and addresses have wider ranges than in a job file. In contracts, entries and calls are those of the reference
+//! memory (called plain memory in the code) and of `model_intervals`.
 //!
 //! - `entries` reads one line of a `history 1`, and `quick` the line of a frequent kind of entry in one pass. An
 //!   `EntryReader` (`reading`) returns the entries of a text that is passed in pieces, and a `HistoryInput`
@@ -36,4 +36,4 @@ pub use quick::quick_entry;
 pub use reading::EntryReader;
 pub use text_fields::commands::SpeltCommand;
 pub use text_words::{RecordedEntry, RecordedReply};
-pub use words::TimedCall;
+pub use words::{NEVER, TimedCall};

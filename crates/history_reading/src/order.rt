@@ -15,7 +15,7 @@ pub(crate) struct CallOrder {
     /// The time at which the last call began. No earlier call began later.
     last_begin: u64,
     /// The time at which the last call of each worker ended.
-    ends: BTreeMap<u32, u64>,
+    ends: BTreeMap<u32, u128>,
 }
 
 impl CallOrder {
@@ -52,7 +52,7 @@ impl CallOrder {
         ensures { result ≡ may_begin (end_of self.now worker) begin }
     {
         match self.ends.get(&worker) {
-            Some(end) => *end < begin,
+            Some(end) => *end < u128::from(begin),
             None => true,
         }
     }

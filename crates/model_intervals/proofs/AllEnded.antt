@@ -8,7 +8,8 @@ use Rattle.model_intervals.proofs.LaterCalls.{fewer_ended}
 
 -- ---- all calls have ended
 
-picked_all : (taken : ℕ → Bool) (calls : List Call) → ((i : ℕ) → i < length calls → taken i ≡ true) → picked taken calls ≡ calls
+-- if each place is taken, all calls are picked
+pub picked_all : (taken : ℕ → Bool) (calls : List Call) → ((i : ℕ) → i < length calls → taken i ≡ true) → picked taken calls ≡ calls
 picked_all taken [] all = refl
 picked_all taken (call ∷ calls) all =
     rw (all 0 (omega arith)) (ap (λ l. call ∷ l) (picked_all (λ i. taken (suc i)) calls (λ i below. all (suc i) (omega (arith, below)))))

@@ -1,6 +1,6 @@
 -- What the laws of completions are proved by: which calls are picked, and when one call ends by another.
 use Rattle.std.proofs.Common.{◌≡◌, ◌⊎◌, inl, inr, ℕ, zero, suc, ◌<◌, ◌≤◌, Bool, true, false, List, [], ◌∷◌, refl, subst}
-use Rattle.model_intervals.specs.Completions.{EndsBefore, EndsBy, HasCompletion, picked}
+use Rattle.model_intervals.specs.Completions.{EndsBefore, EndsBy, EndsInTime, HasCompletion, never, picked}
 use Rattle.model_intervals.specs.Intervals.{Call, IsLinearizable}
 use Rattle.model_intervals.specs.OverlappingCalls.{IsAt}
 
@@ -25,6 +25,9 @@ pub ends_before : (calls : List Call) (place i : ℕ) (a b : Call) → IsAt call
 ends_before calls place i a b at_a at_b (c, d, at_c, at_d, order) =
     subst (λ (x : Call). (x.end < b.end) ⊎ ((x.end ≡ b.end) × (i < place))) (same_call calls i c a at_c at_a)
     (subst (λ (y : Call). (c.end < y.end) ⊎ ((c.end ≡ y.end) × (i < place))) (same_call calls place d b at_d at_b) order)
+
+pub ends_in_time : (calls : List Call) (i : ℕ) (a : Call) → IsAt calls i a → EndsInTime calls i → a.end < never
+ends_in_time calls i a at_a (b, at_b, less) = subst (λ (x : Call). x.end < never) (same_call calls i b a at_b at_a) less
 
 -- ---- completions of three calls
 

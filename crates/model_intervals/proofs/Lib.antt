@@ -16,6 +16,7 @@ mod FormToRun
 mod FreedBetween
 pub mod GivenKeys
 mod HistoryTest
+pub mod InTime
 mod Joined
 pub mod LaterCalls
 pub mod Lists

@@ -1,7 +1,8 @@
 -- Laws of completions, and examples of them. In the examples, the old byte is 0, which a new object contains. The new
 -- byte is 7, which `put_byte` stores.
 use Rattle.std.specs.Prelude.{◌≡◌, ◌↔◌, ℕ, ◌<◌, ◌≤◌, Bool, true, false, List, [], ◌∷◌, ◌++◌, length}
-use Rattle.model_intervals.specs.Completions.{EndsBy, HasCompletion, IsFirstWrong}
+use Rattle.std.specs.List.{All}
+use Rattle.model_intervals.specs.Completions.{EndsBy, EndsInTime, HasCompletion, IsFirstWrong, never}
 use Rattle.model_intervals.specs.ExampleLaws.{first_object, get_byte, put_byte}
 use Rattle.model_intervals.specs.Intervals.{Call, IsLinearizable}
 use Rattle.model_intervals.specs.OverlappingCalls.{IsAt}
@@ -19,6 +20,17 @@ LoadedBytesAreStored = HasCompletion (get_before_end 7) (EndsBy (get_before_end 
 abbrev pub PendingCallsAreFree : Type 0
 PendingCallsAreFree = ((completion : HasCompletion (get_before_end 0) (EndsBy (get_before_end 0) 2)) × (completion.taken 1 ≡ false))
     × ((completion : HasCompletion (get_before_end 0) (EndsBy (get_before_end 0) 2)) × (completion.taken 1 ≡ true))
+
+-- a `get` after the begin of a `put` that was pending when the recording stopped
+abbrev pub get_behind_pending : ℕ → List Call
+get_behind_pending byte = first_object ∷ put_byte 0 2 never ∷ get_byte 1 3 4 byte ∷ []
+
+-- the `get` may return the new byte or the old one, and no other. If it returned the old byte, no order need have the
+-- pending `put`
+abbrev pub PendingPutsMayBeSeen : Type 0
+PendingPutsMayBeSeen = HasCompletion (get_behind_pending 7) (EndsInTime (get_behind_pending 7))
+    × ((completion : HasCompletion (get_behind_pending 0) (EndsInTime (get_behind_pending 0))) × (completion.taken 1 ≡ false))
+    × (HasCompletion (get_behind_pending 1) (EndsInTime (get_behind_pending 1)) → ⊥)
 
 -- two `get`, of which each returns a byte that no call stored. The one that is first in the list ends last
 abbrev pub two_wrong_gets : List Call
@@ -49,6 +61,15 @@ StaleReadIsFirstWrong = IsFirstWrong stale_get 2 × (IsFirstWrong stale_get 3 �
 -- if all calls have ended, they can be completed if and only if some order explains them
 abbrev pub AllEndedAreLinearizable : Type 0
 AllEndedAreLinearizable = (calls : List Call) → HasCompletion calls (λ i. i < length calls) ↔ IsLinearizable calls
+
+-- if no call was pending when the recording stopped, the calls can be completed if and only if some order explains them
+abbrev pub AllInTimeAreLinearizable : Type 0
+AllInTimeAreLinearizable = (calls : List Call) → All (λ call. call.end < never) calls → HasCompletion calls (EndsInTime calls) ↔ IsLinearizable calls
+
+-- if some order explains all calls, the calls can be completed, whichever of them were pending when the recording
+-- stopped
+abbrev pub ExplainedAreCompleted : Type 0
+ExplainedAreCompleted = (calls : List Call) → IsLinearizable calls → HasCompletion calls (EndsInTime calls)
 
 -- at most one call is the first wrong one
 abbrev pub OneIsFirstWrong : Type 0

@@ -15,6 +15,14 @@ pub record HasCompletion (calls : List Call) (ended : ℕ → Type 0) : Type 0 w
   pub all_ended : (i : ℕ) → ended i → taken i ≡ true
   pub explained : IsLinearizable (picked taken calls)
 
+-- the moment at which a call ends that was pending when the recording stopped. It is after each moment of a recording
+abbrev pub never : ℕ
+never = 18446744073709551616
+
+-- the call at place `i` ended before the recording stopped
+abbrev pub EndsInTime : List Call → ℕ → Type 0
+EndsInTime calls i = (a : Call) × IsAt calls i a × (a.end < never)
+
 -- the call at place `i` is the one at `place` or ends before it, in the order of ends: first by the ends, then by the
 -- places in the list
 abbrev pub EndsBy : List Call → ℕ → ℕ → Type 0

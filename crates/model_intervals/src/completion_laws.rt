@@ -1,12 +1,14 @@
 //! Lemmas about completions and first wrong calls, and examples of both. Each lemma is the contract of a function that
 //! does nothing.
-ghost use Rattle.model_intervals.specs.CompletionLaws.{AllEndedAreLinearizable, FirstInListIsFirstWrong, FirstToEndIsFirstWrong, FirstWrongStays, LaterCallsAreFree, LoadedBytesAreStored, OneIsFirstWrong, PendingCallsAreFree, StaleReadIsFirstWrong, UnexplainedHaveFirstWrong};
+ghost use Rattle.model_intervals.specs.CompletionLaws.{AllEndedAreLinearizable, AllInTimeAreLinearizable, ExplainedAreCompleted, FirstInListIsFirstWrong, FirstToEndIsFirstWrong, FirstWrongStays, LaterCallsAreFree, LoadedBytesAreStored, OneIsFirstWrong, PendingCallsAreFree, PendingPutsMayBeSeen, StaleReadIsFirstWrong, UnexplainedHaveFirstWrong};
 
 /// A pending `put` whose byte a `get` has returned is part of each completion. If no call has returned the byte, the
-/// pending `put` may be left out.
+/// pending `put` may be left out. Both hold too of a `put` that was pending when the recording stopped. A `get` that
+/// returns a byte that neither was stored nor is pending is in no completion.
 pub fn pending_calls()
     ensures stored { LoadedBytesAreStored }
     ensures free { PendingCallsAreFree }
+    ensures at_stop { PendingPutsMayBeSeen }
 {}
 
 /// Of two `get` that return a byte that no call stored, the first wrong call is the one that ends first. If both end
@@ -24,6 +26,8 @@ pub fn completions()
     ensures all_ended { AllEndedAreLinearizable }
     ensures one { OneIsFirstWrong }
     ensures some { UnexplainedHaveFirstWrong }
+    ensures in_time { AllInTimeAreLinearizable }
+    ensures explained { ExplainedAreCompleted }
 {}
 
 /// Calls that begin after the end of each call that has ended change neither whether the calls can be completed, nor

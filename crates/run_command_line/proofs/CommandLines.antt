@@ -169,14 +169,15 @@ sessions_are_asked :
 unfolding clap_on_literals asked is_taken
 sessions_are_asked = ((refl, refl), (refl, refl))
 
--- a history is judged with at most 100,000 configurations of an object, or with as many as are given, and an order may
--- be asked for; `-` is a file's name to the command line
+-- a history is judged with at most 100,000 configurations of an object, or with as many as are given, and an order and
+-- a witness may be asked for; `-` is a file's name to the command line
 judgements_are_asked :
-    Asks (codes "check a.history") (check_of (codes "a.history") (record { configurations = 100000; is_ordered = false }))
-    × Asks (codes "check --configurations=4294967295 -") (check_of (codes "-") (record { configurations = 4294967295; is_ordered = false }))
-    × Asks (codes "check --order a.history --configurations 1") (check_of (codes "a.history") (record { configurations = 1; is_ordered = true }))
+    Asks (codes "check a.history") (check_of (codes "a.history") (record { configurations = 100000; is_ordered = false; is_witnessed = false }))
+    × Asks (codes "check --configurations=4294967295 -") (check_of (codes "-") (record { configurations = 4294967295; is_ordered = false; is_witnessed = false }))
+    × Asks (codes "check --order a.history --configurations 1") (check_of (codes "a.history") (record { configurations = 1; is_ordered = true; is_witnessed = false }))
+    × Asks (codes "check --witness a.history --order") (check_of (codes "a.history") (record { configurations = 100000; is_ordered = true; is_witnessed = true }))
 unfolding clap_on_literals asked is_taken
-judgements_are_asked = ((refl, refl), (refl, refl), (refl, refl))
+judgements_are_asked = ((refl, refl), (refl, refl), (refl, refl), (refl, refl))
 
 -- one mesh is never cancelled, and explored for all outcomes, of at most 100,000 states; two meshes come in their
 -- order, between other options, and their numbers may have a plus and leading zeros

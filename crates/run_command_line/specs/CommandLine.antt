@@ -95,10 +95,10 @@ explore_app = with_rule (with_rule (with_rule (with_rule (with_rule (with_rule (
     (number_rule (codes "cancel") 0 1000)) (number_or (codes "states") 1 10000000 (codes "100000"))) (number_rule (codes "witness") 0 4294967295))
     (text_rule (codes "show"))) (text_rule (codes "expect"))) (texts_rule (codes "never"))) (texts_rule (codes "always"))) (texts_rule (codes "exists"))) (flag_rule (codes "allow-no-mesh"))) (flag_rule (codes "progress"))
 
--- `check FILE [--configurations N] [--order]`
+-- `check FILE [--configurations N] [--order] [--witness]`
 abbrev pub check_app : App
-check_app = with_rule (with_rule (with_rule (new_app (codes "check")) file_rule) (number_or (codes "configurations") 1 4294967295 (codes "100000")))
-    (flag_rule (codes "order"))
+check_app = with_rule (with_rule (with_rule (with_rule (new_app (codes "check")) file_rule) (number_or (codes "configurations") 1 4294967295 (codes "100000")))
+    (flag_rule (codes "order"))) (flag_rule (codes "witness"))
 
 -- `savings FILE [--every F] [--probe T] [--seed S] [--first-fit] [--from CALL] [--to CALL] [--svg]`
 abbrev pub savings_app : App
@@ -180,10 +180,11 @@ pub record Explored : Type 0 where
   pub is_watched : Bool
 
 -- how `check` judges a recorded history: the most configurations that an object may have if calls overlap, and whether
--- an order that explains the calls is printed instead of the verdict
+-- an order that explains the calls, or a witness of a wrong answer, is printed instead of the verdict
 pub record Checked : Type 0 where
   pub configurations : ℕ
   pub is_ordered : Bool
+  pub is_witnessed : Bool
 
 -- how `savings` follows a recorded history on two heaps. `every` is the number of freed objects between two rounds of
 -- meshing, and `probe` the most rounds of tries in a search. `seed` gives the words of the objects; without a seed each
@@ -430,7 +431,8 @@ in_order compared = if nat_le compared.from compared.to then Some compared else 
 -- what `check` asks for according to its matches
 abbrev pub checked_in : List Row → Option Checked
 checked_in rows =
-    option_and_then (λ configurations. option_map (λ is_ordered. record { configurations = configurations; is_ordered = is_ordered })
+    option_and_then (λ configurations. option_and_then (λ is_ordered. option_map
+    (λ is_witnessed. record { configurations = configurations; is_ordered = is_ordered; is_witnessed = is_witnessed }) (flag_in (codes "witness") rows))
     (flag_in (codes "order") rows)) (number_in (codes "configurations") 1 4294967295 rows)
 
 -- what `savings` asks for according to its matches
@@ -546,7 +548,7 @@ explored_of conditions args =
 
 -- the judgement in parsed arguments for `check`
 abbrev pub checked_of : CheckArgs → Checked
-checked_of args = record { configurations = args.configurations; is_ordered = args.is_ordered }
+checked_of args = record { configurations = args.configurations; is_ordered = args.is_ordered; is_witnessed = args.is_witnessed }
 
 -- the comparison in parsed arguments for `savings`
 abbrev pub compared_of : SavingsArgs → Compared

@@ -4,7 +4,7 @@ ghost use Rattle.clap.specs.Words.{found_of, rows_of};
 ghost use Rattle.run_command_line.specs.Conditions.{ConditionTexts};
 ghost use Rattle.run_command_line.specs.CommandLine.{asking, check_of, checked_in, checked_of};
 
-use crate::options::{CONFIGURATIONS, ORDER};
+use crate::options::{CONFIGURATIONS, ORDER, WRONG_CALLS};
 use crate::values::{is_given, small_number};
 use crate::{Args, CheckArgs};
 use clap::ArgMatches;
@@ -24,8 +24,10 @@ fn checked<'a>(matches: &ArgMatches<'a>) -> Option<CheckArgs>
 {
     let configurations = small_number(matches, CONFIGURATIONS)?;
     let is_ordered = is_given(matches, ORDER)?;
+    let is_witnessed = is_given(matches, WRONG_CALLS)?;
     Some(CheckArgs {
         configurations,
         is_ordered,
+        is_witnessed,
     })
 }

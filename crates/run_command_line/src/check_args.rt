@@ -8,5 +8,7 @@ pub struct CheckArgs {
     pub configurations: u32,
     /// Whether an order of effects that explains the calls is printed instead of the verdict.
     pub is_ordered: bool,
+    /// Whether a witness of a wrong answer is printed instead of the verdict.
+    pub is_witnessed: bool,
     pub ghost range: { IsInRange configurations },
 }

@@ -27,6 +27,9 @@ pub(crate) const SVG: &str = "svg";
 /// The name of the flag that asks for an order of effects instead of a verdict.
 pub(crate) const ORDER: &str = "order";
 
+/// The name of the flag that asks for a witness of a wrong answer instead of a verdict.
+pub(crate) const WRONG_CALLS: &str = "witness";
+
 /// The name of the option that asks for a mesh.
 pub(crate) const MESH: &str = "mesh";
 
@@ -558,6 +561,10 @@ pub(crate) const JUDGEMENTS: &[Subcommand] = &[
             Argument::Flag(
                 ORDER,
                 "Print calls that overlap in an order that explains them, as a history of version 1, instead of the verdict",
+            ),
+            Argument::Flag(
+                WRONG_CALLS,
+                "Print the few overlapping calls that show a wrong answer, as a history of version 2, instead of the verdict",
             ),
         ],
     },

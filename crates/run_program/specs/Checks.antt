@@ -52,13 +52,13 @@ judgement_status (Overlapping (Undecided line fault)) = 4
 -- the history was judged, the judgement's line was written, and the judgement has this status
 abbrev pub HasToldVerdict : ℕ → Option (List ℕ) → Option (List ℕ) → Option (List ℕ) → Option (List ℕ) → ℕ → Type 0
 HasToldVerdict most left left' written written' status =
-    (judgement : Judgement) × HasJudged left left' judgement × Appends written written' (judgement_text most judgement) × (status ≡ judgement_status judgement)
+    (judgement : Judgement) × HasJudged most left left' judgement × Appends written written' (judgement_text most judgement) × (status ≡ judgement_status judgement)
 
 -- what was read and written before a judgement stopped for this error
 abbrev pub HasStoppedCheck : ℕ → Option (List ℕ) → Option (List ℕ) → Option (List ℕ) → Option (List ℕ) → CheckError → Type 0
 HasStoppedCheck most left left' written written' (Replay Read) = Keeps written written'
 HasStoppedCheck most left left' written written' (Replay Write) =
-    (judgement : Judgement) × HasJudged left left' judgement × AppendsBeginning written written' (judgement_text most judgement)
+    (judgement : Judgement) × HasJudged most left left' judgement × AppendsBeginning written written' (judgement_text most judgement)
 HasStoppedCheck most left left' written written' (Replay (Text fault)) = HasNotJudged left left' (CallText fault) × Keeps written written'
 HasStoppedCheck most left left' written written' (Replay Memory) = Keeps written written'
 HasStoppedCheck most left left' written written' (Order line) = HasNotJudged left left' (CallOrder line) × Keeps written written'

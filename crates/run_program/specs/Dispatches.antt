@@ -1,21 +1,22 @@
 -- How the run ends that a command line asks for.
-use Rattle.std.specs.Prelude.{◌≡◌, ℕ, Bool, true, false, List, Option}
+use Rattle.std.specs.Prelude.{◌≡◌, ℕ, Bool, true, false, ◌||◌, List, Option}
 use Rattle.std.specs.Io.KnownBytes.{prepend_known}
 use Rattle.std.specs.Option.{option_copied}
 use Rattle.mesh_text.specs.Echo.{HasEchoed, HasStoppedEcho}
 use Rattle.mesh_text.specs.Recorded.{HasReplayedRecorded, HasStoppedRecorded}
 use Rattle.mesh_text.specs.Replay.{HasReplayed, HasStopped}
 use Rattle.run_command_line.specs.Conditions.{ConditionTexts, conditions_of}
+use Rattle.run_command_line.specs.declared.check_args.CheckArgs.{CheckArgs}
 use Rattle.run_command_line.specs.declared.command_line.Args.{Args}
 use Rattle.run_command_line.specs.declared.command_line.Args.TheVariants.{Replay, ReplayHistory, ReplayEcho, Threads, ThreadsHistory, ThreadsPaced, ThreadsReport, Draw, DrawHtml, DrawText, Live, Explore, Check, Savings}
 use Rattle.run_command_line.specs.declared.explore_args.ExploreArgs.{ExploreArgs}
 use Rattle.run_command_line.specs.declared.requested.Request.{Request}
+use Rattle.run_program.specs.Certificates.{EndsCertificate}
 use Rattle.run_program.specs.Checks.{EndsCheck}
 use Rattle.run_program.specs.Criteria.{condition_texts}
 use Rattle.run_program.specs.Draws.{EndsDraw, EndsDrawHtml, EndsDrawText, EndsLive}
 use Rattle.run_program.specs.Explores.{EndsExplore}
 use Rattle.run_program.specs.LiveSizes.{session_sizes}
-use Rattle.run_program.specs.Orders.{EndsOrder}
 use Rattle.run_program.specs.Runs.{Ends}
 use Rattle.run_program.specs.Savings.{EndsSavings, options_of}
 use Rattle.run_program.specs.Seen.{Seen, seen}
@@ -49,10 +50,10 @@ with_inspected bytes devices =
 abbrev pub EndsJudgement : ℕ → Seen → Seen → ℕ → Type 0
 EndsJudgement most before after status = (inspected : List ℕ) × EndsCheck most before (with_inspected inspected after) status
 
--- how `check` ends: an order is printed if it is asked for, and otherwise a judgement
-abbrev pub EndsCheckBy : Bool → ℕ → Seen → Seen → ℕ → Type 0
-EndsCheckBy true most before after status = EndsOrder most before after status
-EndsCheckBy false most before after status = EndsJudgement most before after status
+-- how `check` ends: a certificate is printed if one is asked for, and otherwise a judgement
+abbrev pub EndsCheckBy : Bool → CheckArgs → Seen → Seen → ℕ → Type 0
+EndsCheckBy true args before after status = EndsCertificate args before after status
+EndsCheckBy false args before after status = EndsJudgement args.configurations before after status
 
 -- how the run with these arguments, conditions and expected outcomes ends
 abbrev pub EndsAsked : Args → ConditionTexts → Option (List ℕ) → Seen → Seen → ℕ → Type 0
@@ -68,7 +69,7 @@ EndsAsked (DrawText path args) conditions expected before after status = EndsDra
 EndsAsked (DrawHtml path args) conditions expected before after status = EndsDrawHtml path.now args before after status
 EndsAsked (Live args) conditions expected before after status = EndsLive (session_sizes args) before after status
 EndsAsked (Explore path args) conditions expected before after status = EndsExploreBy args conditions expected before after status
-EndsAsked (Check path args) conditions expected before after status = EndsCheckBy args.is_ordered args.configurations before after status
+EndsAsked (Check path args) conditions expected before after status = EndsCheckBy (args.is_ordered || args.is_witnessed) args before after status
 EndsAsked (Savings path args) conditions expected before after status = EndsSavings (options_of args) before after status
 
 -- how the run of a request ends, if the outcomes that are expected are those of this text

@@ -1,3 +1,4 @@
+pub mod Certificates
 pub mod Checks
 pub mod Conditions
 pub mod Criteria
@@ -7,7 +8,6 @@ pub mod Explains
 pub mod Explores
 pub mod Kept
 pub mod LiveSizes
-pub mod Orders
 pub mod Runs
 pub mod Savings
 pub mod Seen

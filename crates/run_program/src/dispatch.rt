@@ -1,20 +1,21 @@
 //! The run that a command line asks for.
+ghost use Rattle.std.specs.Prelude.{◌||◌};
 ghost use Rattle.std.specs.Option.{option_copied};
 ghost use Rattle.run_command_line.specs.Conditions.{conditions_of};
 ghost use Rattle.run_program.specs.Dispatches.{EndsAs, EndsCheckBy, EndsEcho, EndsExploreBy, EndsJudgement, EndsRecorded, EndsReplay};
 ghost use Rattle.run_program.specs.Draws.{EndsDraw, EndsDrawHtml, EndsDrawText, EndsLive};
 ghost use Rattle.run_program.specs.LiveSizes.{session_sizes};
-ghost use Rattle.run_program.specs.Orders.{EndsOrder};
+ghost use Rattle.run_program.specs.Certificates.{EndsCertificate};
 ghost use Rattle.run_program.specs.Runs.{IsSound};
 ghost use Rattle.run_program.specs.Savings.{EndsSavings, options_of};
 ghost use Rattle.run_program.specs.Threads.{EndsThreads};
 ghost use Rattle.run_program.specs.declared.printed.Printed.{Printed};
 
+use crate::certificate::certificate_run;
 use crate::check::check_run;
 use crate::draw::{draw_html_run, draw_run, draw_text_run};
 use crate::explore::explore_run;
 use crate::live::live_run;
-use crate::order::order_run;
 use crate::printed::Printed;
 use crate::runs::{replay_echo_run, replay_history_run, replay_run};
 use crate::savings::savings_run;
@@ -233,32 +234,32 @@ fn live<I: Source, O: Sink, E: Sink>(
     Ended { status, devices }
 }
 
-/// Judges a recorded history, and prints the verdict or the order that is asked for.
+/// Judges a recorded history, and prints the verdict or the certificate of it that is asked for.
 fn check<I: Source + Drop, O: Sink + Drop, E: Sink + Drop>(
     alloc: Global,
     args: &CheckArgs,
     devices: Devices<I, O, E>,
 ) -> Ended<I, O, E>
     requires { IsSound devices }
-    ensures { EndsCheckBy args.now.is_ordered args.now.configurations devices result.devices result.status }
+    ensures { EndsCheckBy (args.now.is_ordered || args.now.is_witnessed) args.now devices result.devices result.status }
 {
-    if args.is_ordered {
-        order(alloc, args.configurations, devices)
+    if args.is_ordered || args.is_witnessed {
+        certify(alloc, args, devices)
     } else {
         judge(alloc, args.configurations, devices)
     }
 }
 
-/// Judges a recorded history, and prints an order of its calls if there is one.
-fn order<I: Source, O: Sink, E: Sink>(
+/// Judges a recorded history, and prints the certificate of the verdict that is asked for if there is one.
+fn certify<I: Source, O: Sink, E: Sink>(
     alloc: Global,
-    most: u32,
+    args: &CheckArgs,
     mut devices: Devices<I, O, E>,
 ) -> Ended<I, O, E>
     requires { IsSound devices }
-    ensures { EndsOrder most devices result.devices result.status }
+    ensures { EndsCertificate args.now devices result.devices result.status }
 {
-    let status = order_run(alloc, most, &mut devices);
+    let status = certificate_run(alloc, args, &mut devices);
     Ended { status, devices }
 }
 

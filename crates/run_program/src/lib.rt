@@ -7,6 +7,7 @@
 //! An `AllocError` means that an allocation failed.
 #![tactic(auto)]
 
+mod certificate;
 mod check;
 mod check_error;
 mod conditions;
@@ -19,7 +20,6 @@ mod explore;
 mod fault_line;
 mod kept;
 mod live;
-mod order;
 mod pipes;
 mod printed;
 mod progress;
@@ -34,6 +34,7 @@ mod verdict;
 mod verdict_error;
 pub mod word_laws;
 
+pub use certificate::certificate_run;
 pub use check::check_run;
 pub use check_error::CheckError;
 pub use criteria::Criteria;
@@ -45,7 +46,6 @@ pub use explore::explore_run;
 pub use history_judge::Begun;
 pub use kept::Kept;
 pub use live::live_run;
-pub use order::order_run;
 pub use pipes::{Hushed, Piped};
 pub use progress::Progress;
 pub use run_command_line::{

@@ -38,16 +38,33 @@ pub(crate) fn entry_fields(kind: EntryKind, line: &[u8]) -> Option<LineFields<'_
 
 /// Returns why the words of an entry with these fields are faulty.
 fn fields_reason<'a>(kind: EntryKind, fields: &[&'a [u8]]) -> Option<WordReason<'a>> {
-    match arrow_split(fields) {
+    match parts_of(kind, fields) {
         Some((before, behind)) => split_reason(kind, before, behind),
         None => Some(WordReason::NoArrow(kind)),
     }
 }
 
-/// The fields before the first field `->`, and the fields behind it. `None` if there is no such field.
-pub(crate) fn arrow_split<'b, 'a>(
+/// The fields of an entry before its answer, and the fields of the answer. A call that was pending when the recording
+/// stopped has no answer. `None` if the entry of any other call has no field `->`.
+pub(crate) fn parts_of<'b, 'a>(
+    kind: EntryKind,
     fields: &'b [&'a [u8]],
 ) -> Option<(&'b [&'a [u8]], &'b [&'a [u8]])> {
+    match (kind, fields) {
+        (EntryKind::Overlapping, [_, _, end, ..]) if is_pending_mark(*end) => {
+            Some((fields, &fields[fields.len()..]))
+        }
+        _ => arrow_split(fields),
+    }
+}
+
+/// Whether the field, in the place of an end, marks a call that was pending when the recording stopped.
+pub(crate) fn is_pending_mark(field: &[u8]) -> bool {
+    is_word(field, b"-")
+}
+
+/// The fields before the first field `->`, and the fields behind it. `None` if there is no such field.
+fn arrow_split<'b, 'a>(fields: &'b [&'a [u8]]) -> Option<(&'b [&'a [u8]], &'b [&'a [u8]])> {
     let place = fields.iter().position(|field| is_word(*field, b"->"))?;
     Some((&fields[..place], &fields[place + 1..]))
 }

@@ -2,7 +2,7 @@
 ghost use Rattle.std.specs.Prelude.{IfSome};
 ghost use Rattle.text_reasons.specs.Truths.{IsSo};
 
-use crate::entry_words::{LineFields, Part, arrow_split, entry_fields, part_of};
+use crate::entry_words::{LineFields, Part, entry_fields, is_pending_mark, part_of, parts_of};
 use crate::grammar::{
     ANSWERS, COMMANDS_OF_TWO, FIRST_WORKER_LINE, HISTORY_LINE, JOURNAL_LINE, MESH_LINE, PAGES_LINE,
     VERSION, WORKER_LINE, WORKERS_LINE, field_at,
@@ -10,7 +10,7 @@ use crate::grammar::{
 use crate::job_words::plan_of;
 use crate::places::{Line, Place, Section};
 use crate::spelling::Limits;
-use crate::{EntryKind, Field, Form, NumberReason, Reason, Spelt, Vocabulary};
+use crate::{EntryKind, Field, FieldKind, Form, NumberReason, Reason, Spelt, Vocabulary};
 use text_fields::lines::fields_up_to;
 use text_fields::numbers::number;
 
@@ -68,7 +68,7 @@ fn entry_reason<'a>(place: &Place, kind: EntryKind, line: &'a [u8]) -> Option<Re
     ensures { IfSome result (λ reason. IsSo reason) }
 {
     let fields = entry_fields(kind, line)?;
-    let (before, behind) = arrow_split(fields.as_slice())?;
+    let (before, behind) = parts_of(kind, fields.as_slice())?;
     let limits = Limits::at(place).with_begin(begin_in(before));
     if let Some(reason) = first_reason(kind.before_command(), before, &limits) {
         return Some(reason);
@@ -100,6 +100,11 @@ fn part_reason<'a>(
     first_reason(form.1, part.fields, limits)
 }
 
+/// Whether the text stands for the end of a call that was pending when the recording stopped.
+fn is_no_end(field: Field, text: &[u8]) -> bool {
+    matches!(field.1, FieldKind::End) && is_pending_mark(text)
+}
+
 /// Returns why the first misspelt field of these is misspelt.
 fn first_reason<'a>(wanted: &[Field], spelt: &[&'a [u8]], limits: &Limits) -> Option<Reason<'a>>
     ensures { IfSome result (λ reason. IsSo reason) }
@@ -107,7 +112,7 @@ fn first_reason<'a>(wanted: &[Field], spelt: &[&'a [u8]], limits: &Limits) -> Op
     for (place, text) in spelt.iter().enumerate() {
         let field = field_at(wanted, place)?;
         let range = field.1.range(limits);
-        if !range.allows(*text) {
+        if !range.allows(*text) && !is_no_end(field, *text) {
             return range.reason(field, *text);
         }
     }

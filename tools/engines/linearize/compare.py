@@ -4,7 +4,7 @@
     tools/engines/linearize/compare.py [COUNT [SEED]]
 
 COUNT is the number of histories, by default 1,000, and SEED the first seed, by default 1. A history has 2 to 7 calls of
-2 to 4 threads. It is a history if each `new` has a cell of its own, and each other call is between the `new` and the
+2 to 4 threads. In every third one, some threads' last calls were pending when the recording stopped. It is a history if each `new` has a cell of its own, and each other call is between the `new` and the
 `free` of its cell. If it isn't, its calls are a history up to some call that begins. Then reference.py must report that
 they are none, unless a call is wrong that ended before. Compared are
 
@@ -20,6 +20,7 @@ one differs.
 """
 import collections
 import itertools
+import random
 import sys
 
 import orders
@@ -47,18 +48,23 @@ def words_of(call, answer):
     return call.begin, call.end, [call.word, str(call.cell), *call.fields, *answer.split(" ")]
 
 
+def may_be_seen(call):
+    """Whether another call can show that a call had its effect: of pending ones, only a store or a `free`."""
+    return call.end != orders.NEVER or call.word in ("put", "free")
+
+
 def is_explained_at_end(call, calls, changed):
     """Whether some order explains what is known at the end of a call, if that is changed so."""
     ended = [words_of(other, other.answer) for other in calls if (other.end, other.line) < (call.end, call.line)]
-    pending = [words_of(other, other.answer) for other in calls
-               if other.begin <= call.end and (other.end, other.line) > (call.end, call.line)]
-    return any(orders.is_linearizable([*ended, changed, *some])
+    pending = [words_of(other, other.answer) for other in calls if may_be_seen(other)
+               and other.begin <= call.end and (other.end, other.line) > (call.end, call.line)]
+    return any(orders.is_explained([*ended, changed, *some])
                for count in range(len(pending) + 1) for some in itertools.combinations(pending, count))
 
 
 def unexplained(calls):
     """The first call, in the order of ends, that no order explains, or None."""
-    in_time = sorted(calls, key=lambda call: (call.end, call.line))
+    in_time = sorted((call for call in calls if call.end != orders.NEVER), key=lambda call: (call.end, call.line))
     return next((call for call in in_time if not is_explained_at_end(call, calls, words_of(call, call.answer))), None)
 
 
@@ -74,7 +80,7 @@ def possible_answers(call, calls):
 def difference(calls, verdict):
     """How the verdict on a history differs from what all orders have, or None."""
     call = unexplained(calls)
-    is_linearizable = orders.is_linearizable([words_of(other, other.answer) for other in calls])
+    is_linearizable = orders.is_linearizable([words_of(other, other.answer) for other in calls if may_be_seen(other)])
     if is_linearizable != (verdict == f"linearizable {len(calls)} entries") or is_linearizable != (call is None):
         return "not whether it is linearizable"
     if call and not verdict.startswith(f"line {call.line}: "):
@@ -94,6 +100,17 @@ def difference_of_none(calls, verdict):
     return None if "no history" in verdict else "no history"
 
 
+def with_pending(text, source):
+    """A history in which some threads' last calls were pending when the recording stopped."""
+    head, *rows = text.splitlines()
+    last = {row.split(" ")[0]: number for number, row in enumerate(rows)}
+    for number in last.values():
+        if source.randrange(2):
+            worker, begin, _, call = rows[number].split(" ", 3)
+            rows[number] = f"{worker} {begin} - {call.split(' -> ')[0]}"
+    return "".join(f"{row}\n" for row in [head, *rows])
+
+
 def kind_of_verdict(verdict):
     """A verdict without its numbers and answers."""
     return next(kind for kind in ("linearizable", "no order", "serial", "overlaps", "no history") if kind in verdict)
@@ -104,6 +121,8 @@ def main():
     differing, kinds = 0, collections.Counter()
     for seed in range(first, first + count):
         text = random_histories.history(seed, 2 + seed % 6, 2 + seed % 3)
+        if seed % 3 == 0:
+            text = with_pending(text, random.Random(seed))
         calls, _ = reference.calls_of_text(text)
         verdict = reference.judged(text, LIMIT)[1]
         kinds[kind_of_verdict(verdict)] += 1

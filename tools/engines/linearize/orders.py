@@ -12,21 +12,28 @@ and for more than 7 calls.
 
 A history is linearizable if some order of its calls respects real time (no call is after one that began when it had
 ended) and is a legal history of version 1 of separate objects. A `new` of 1 byte or more may be refused for a fair
-reason at any time.
+reason at any time. The order may leave out calls that were pending when the recording stopped. It leaves out each such
+`new`, `get` and `addr`: no other call can show that it had its effect.
 """
 import itertools
 import sys
 
 MOST_CALLS = 7
+# The end of a call that was pending when the recording stopped.
+NEVER = 2 ** 64
 FAIR_REFUSALS = ("refused 2 TOO_LARGE", "refused 3 NO_PAGES", "refused 4 NO_ADDRESSES")
 
 
 def calls_of_text(text):
-    """The calls of a history, each a triple (begin, end, words of the command and the answer)."""
+    """The calls of a history, each a triple (begin, end, words of the command and the answer). A pending `new`, `get` or
+    `addr` isn't among them."""
     calls = []
     for line in text.splitlines()[1:]:
         _, begin, end, *words = line.replace(" -> ", " ").split(" ")
-        calls.append((int(begin), int(end), words))
+        if end != "-":
+            calls.append((int(begin), int(end), words))
+        elif words[0] in ("put", "free"):
+            calls.append((int(begin), NEVER, [*words, "done"]))
     return calls
 
 
@@ -83,9 +90,16 @@ def is_legal(order):
     return all(getattr(memory, word)(*fields) for _, _, (word, *fields) in order)
 
 
-def is_linearizable(calls):
+def is_explained(calls):
     """Whether some order of all calls respects real time and is legal."""
     return any(respects_time(order) and is_legal(order) for order in itertools.permutations(calls))
+
+
+def is_linearizable(calls):
+    """Whether some order of the calls that ended, and of some of the pending ones, respects real time and is legal."""
+    ended, pending = ([call for call in calls if (call[1] == NEVER) == is_pending] for is_pending in (False, True))
+    return any(is_explained([*ended, *some])
+               for count in range(len(pending) + 1) for some in itertools.combinations(pending, count))
 
 
 def main():

@@ -16,6 +16,8 @@ a heap of pending ends. Its configurations are kept: pairs of its bytes and of t
 effect. When a call ends, each configuration is carried on by effects of pending calls until the call that ends had its
 own (Lowe's just-in-time linearization); those in which it can't have it are dropped.
 
+A call that was pending when the recording stopped never ends. It may have had its effect or not.
+
 `new` and `free` need no search: an object has its addresses at least from the END of its `new` to the BEGIN of its
 `free`.
 """
@@ -30,6 +32,8 @@ CELL_AGAIN = "cell again"
 NOT_AFTER_NEW = "not after its new"
 NOT_BEFORE_FREE = "not before its free"
 OUTSIDE = "refused 7 OUTSIDE"
+# The end of a call that was pending when the recording stopped. It is after the end of any other call.
+NEVER = 2 ** 64
 FAIR_REFUSALS = ("refused 2 ", "refused 3 ", "refused 4 ")
 
 
@@ -61,8 +65,17 @@ class OrderFault(Exception):
     """The number of a line that begins too early."""
 
 
+def pending_call(line, entry):
+    """The call of a line `W BEGIN - COMMAND`. Of the answers that it might have had, only that of a store matters."""
+    worker, begin, _, word, cell, *fields = entry.split(" ")
+    answer = "done" if word in ("put", "free") else ""
+    return Call(line, int(worker), int(begin), NEVER, word, int(cell), fields, answer)
+
+
 def call_of_line(line, entry):
     """The call of one line of the text."""
+    if entry.split(" ")[2] == "-":
+        return pending_call(line, entry)
     command, answer = entry.split(" -> ")
     worker, begin, end, word, cell, *fields = command.split(" ")
     return Call(line, int(worker), int(begin), int(end), word, int(cell), fields, answer)
@@ -86,7 +99,8 @@ def calls_of_text(text):
 # ---- Time ----
 
 def moments(calls):
-    """The begins and ends of calls in time, as pairs (whether it is a begin, call).
+    """The begins and ends of calls in time, as pairs (whether it is a begin, call). Calls that were pending when the
+    recording stopped have no end.
 
     At one moment begins come before ends, begins and ends each in the order of lines.
     """
@@ -96,7 +110,7 @@ def moments(calls):
             yield False, heapq.heappop(pending)[2]
         yield True, call
         heapq.heappush(pending, (call.end, call.line, call))
-    while pending:
+    while pending and pending[0][0] < NEVER:
         yield False, heapq.heappop(pending)[2]
 
 

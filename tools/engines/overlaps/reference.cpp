@@ -3,9 +3,10 @@
 //     g++ -O2 -std=c++17 -o reference reference.cpp
 //     ./reference FILE [--mode MODE] [--configurations N] [--count]
 //
-// FILE is a history of version 2. For a text without a fault of its spelling it prints the verdict that `meshrun check`
-// prints. The status is 0 if the history is linearizable, 3 if it isn't, and 4 if the verdict is `undecided`. For a
-// line that begins too early the status is 2, with `line L: ORDER` on standard error. It needs GCC or Clang for C++17.
+// FILE is a history of version 2. A call that was pending when the recording stopped never ends. For a text without a
+// fault of its spelling it prints the verdict that `meshrun check` prints. The status is 0 if the history is
+// linearizable, 3 if it isn't, and 4 if the verdict is `undecided`. For a line that begins too early the status is 2,
+// with `line L: ORDER` on standard error. It needs GCC or Clang for C++17.
 //
 // Each object is judged by itself. Its configurations are kept: the bytes that it may have, and the marks of the
 // pending accesses that had their effect. When an access ends, those are met to which effects of pending accesses lead,
@@ -43,9 +44,13 @@
 
 using Fields = std::vector<std::string_view>;
 
+/// A moment of a history. `never` is after each moment at which a call begins or ends.
+using Moment = unsigned __int128;
+
 /// A set of places of pending accesses.
 using Marks = uint64_t;
 
+constexpr Moment never = Moment{1} << 64;
 constexpr unsigned most_pending = 64;
 constexpr size_t most_bytes = 32;
 constexpr size_t most_named = 8;
@@ -590,10 +595,12 @@ private:
 
 // ---- The judge of a history ----
 
-/// A call that has begun. The answer of a `new` has a serial and an address, or is a refusal.
+/// A call that has begun. The answer of a `new` has a serial and an address, or is a refusal. The end of a call that was
+/// pending when the recording stopped is `never`.
 struct Call {
     uint32_t line;
-    uint64_t begin, end;
+    uint64_t begin;
+    Moment end;
     uint32_t cell;
     std::string word, answer;
     uint64_t length = 0, address = 0;
@@ -629,15 +636,8 @@ public:
     explicit Timeline(Search& search) : search_(search) {}
 
     /// Takes the ends before a moment, up to the first flaw.
-    std::optional<Verdict> end_before(uint64_t moment) {
+    std::optional<Verdict> end_before(Moment moment) {
         while (!waiting_.empty() && waiting_.begin()->first.first < moment) {
-            if (auto verdict = end_next()) return verdict;
-        }
-        return {};
-    }
-
-    std::optional<Verdict> end_all() {
-        while (!waiting_.empty()) {
             if (auto verdict = end_next()) return verdict;
         }
         return {};
@@ -653,7 +653,7 @@ public:
             call.place = cell.object->judge.begin(access_of(call, asked, *cell.object));
             if (!call.place) return undecided(call, std::to_string(search_.limit) + " configurations");
         }
-        std::pair<uint64_t, uint32_t> key(call.end, call.line);
+        std::pair<Moment, uint32_t> key(call.end, call.line);
         waiting_.emplace(key, std::move(call));
         return {};
     }
@@ -695,8 +695,10 @@ private:
         access.is_store = call.word == "put";
         uint64_t first = number(asked[5]), count = access.is_store ? asked[6].size() / 2 : number(asked[6]);
         if (first + count > object.length) return access;
-        std::string_view data = access.is_store ? asked[6] : std::string_view(call.answer).substr(6);
         access.range = {first, first + count};
+        // What a pending load would have loaded isn't known, and changes nothing.
+        if (!access.is_store && call.end == never) return access;
+        std::string_view data = access.is_store ? asked[6] : std::string_view(call.answer).substr(6);
         access.can = data.size() == 2 * count;
         for (size_t i = 0; 2 * i < data.size(); i++) access.data[i] = number(data.substr(2 * i, 2), 16);
         return access;
@@ -759,7 +761,7 @@ private:
     }
 
     Search& search_;
-    std::map<std::pair<uint64_t, uint32_t>, Call> waiting_;
+    std::map<std::pair<Moment, uint32_t>, Call> waiting_;
     std::unordered_map<uint32_t, Cell> cells_;
     std::unordered_set<uint32_t> serials_;
     std::map<unsigned __int128, const Object*> starts_;
@@ -771,8 +773,10 @@ private:
 Call call_of_line(uint32_t line, std::string_view text, Fields& asked) {
     size_t arrow = text.find(" -> ");
     cut(text.substr(0, arrow), asked);
-    Call call{line, number(asked[1]), number(asked[2]), static_cast<uint32_t>(number(asked[4])),
-              std::string(asked[3]), std::string(text.substr(arrow + 4))};
+    bool is_pending = asked[2] == "-";
+    Moment end = is_pending ? never : Moment{number(asked[2])};
+    std::string answer(is_pending ? "done" : text.substr(arrow + 4));
+    Call call{line, number(asked[1]), end, static_cast<uint32_t>(number(asked[4])), std::string(asked[3]), answer};
     if (call.word != "new") return call;
     call.length = number(asked[5]);
     if (!call.is_object()) return call;
@@ -796,7 +800,7 @@ public:
 
 private:
     uint64_t begin_ = 0;
-    std::unordered_map<uint64_t, uint64_t> ends_;
+    std::unordered_map<uint64_t, Moment> ends_;
 };
 
 Verdict judged(std::istream& file, Search& search) {
@@ -811,7 +815,7 @@ Verdict judged(std::istream& file, Search& search) {
         if (auto verdict = timeline.end_before(call.begin)) return *verdict;
         if (auto verdict = timeline.begin(std::move(call), asked)) return *verdict;
     }
-    if (auto verdict = timeline.end_all()) return *verdict;
+    if (auto verdict = timeline.end_before(never)) return *verdict;
     return {0, "linearizable " + std::to_string(line - 1) + " entries"};
 }
 

@@ -8,7 +8,10 @@ import sys
 
 from cli.suite import NOTHING, SOME_TEXT, Beginning, Explained, Run, execute, line
 
-PENDING = rb"calls that were pending: \d+, with the greatest END [1-9]\d*, left out \d+\n"
+sys.path.append(str(pathlib.Path(__file__).resolve().parents[2] / "engines/linearize"))
+import witnesses
+
+PENDING = rb"calls that were pending: [1-9]\d*\n"
 OVERLAPPING = pathlib.Path("histories/overlapping")
 LOST_STORE = (
     "line 306: answer differs: bytes 00000000000000000000000000000000, "
@@ -71,6 +74,24 @@ def overlapping(suite, history):
         status = 4 if verdict.read_text().startswith("undecided") else 3
         suite.check(name, status, verdict, NOTHING, "check", history, *words)
         suite.check(ordered, status, verdict, NOTHING, "check", history, "--order", *words)
+        if status == 3:
+            witness(suite, history, verdict)
+
+
+def witness(suite, history, verdict):
+    """What `--witness` prints of a history without an order: the smallest witness, if another engine found it, or else
+    some witness; and the verdict, if no answer is wrong."""
+    name, smallest = f"check --witness: {history.stem}", history.with_suffix(".witness")
+    if smallest.exists():
+        suite.check(name, 3, smallest, NOTHING, "check", history, "--witness")
+        judged = suite.run("check", smallest)
+        suite.report(f"{name}, judged", [] if judged.status == 3 else [f"status {judged.status}"])
+    elif witnesses.wrong_call(history.read_text()) is None:
+        suite.check(name, 3, verdict, NOTHING, "check", history, "--witness")
+    else:
+        printed = suite.run("check", history, "--witness").output.decode()
+        fault = witnesses.fault_of(history.read_text(), printed)
+        suite.report(name, [fault] if fault else [])
 
 
 def order(suite, name, history):
@@ -161,7 +182,7 @@ def crashed_threads(suite, real):
     merged = execute([merge, suite.room / "real.record"])
     history.write_bytes(merged.output)
     pending = re.fullmatch(PENDING, merged.errors)
-    stores = re.findall(rb"^0 \d+ 18446744073709551615 put ", merged.output, re.MULTILINE)
+    stores = re.findall(rb"^0 \d+ - put ", merged.output, re.MULTILINE)
     is_whole = merged.status == 0 and pending and len(stores) == 1 and entries_in(history) > 500
     suite.report("record: the calls before a crash", [] if is_whole else [f"status {merged.status}, {merged.errors}"])
     wanted = line(f"linearizable {entries_in(history)} entries")

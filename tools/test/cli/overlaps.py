@@ -12,14 +12,17 @@ sys.path.append(str(pathlib.Path(__file__).resolve().parents[2] / "engines/linea
 import compare
 import orders
 import reference
+import witnesses
 
 TINY = 1000
+WITNESSED = 250
 LEAST = 100
 IN_ORDER, WITHOUT_ORDER, NO_HISTORY = "linearizable", "without order", "no histories"
 
 
 def cases(suite):
     tiny_histories(suite)
+    witnesses_of_random(suite)
     source = random.Random(2026)
     for number in range(60):
         history = suite.write("random.history", lines(ordered_calls(source)))
@@ -45,6 +48,45 @@ def tiny_histories(suite):
             faults.append(f"{number}, {calls}: {kind}, {verdict}, {told}")
     few = [f"{counts[kind]} {kind}" for kind in (IN_ORDER, WITHOUT_ORDER, NO_HISTORY) if counts[kind] <= LEAST]
     suite.report(f"overlaps: {TINY} random histories, as all orders of each have it", faults[:3] + few)
+
+
+def witnesses_of_random(suite):
+    """Random histories of which some have a wrong answer. Each of these has a witness, and another engine takes it."""
+    source = random.Random(7)
+    wrong, faults, many = 0, [], 0
+    for number in range(WITNESSED):
+        text = lines(["history 2", *random_accesses(source)])
+        if witnesses.wrong_call(text.decode()) is None:
+            continue
+        wrong += 1
+        run = suite.run("check", suite.write("wrong.history", text), "--witness")
+        witness = run.output.decode()
+        told = witnesses.fault_of(text.decode(), witness) if witness.startswith("history 2\n") else witness
+        many += len(witness.splitlines()) > len(witnesses.smallest(text.decode()).splitlines())
+        if told or (run.status, run.errors) != (3, b""):
+            faults.append(f"{number}, {text}: {told}")
+    few = [f"{wrong} with a wrong answer"] if wrong <= LEAST else []
+    more = [f"{many} of {wrong} witnesses aren't the smallest"] if many * 10 > wrong else []
+    suite.report(f"check --witness: {wrong} random histories with a wrong answer", faults[:3] + few + more)
+
+
+def random_accesses(source):
+    """The lines of a history of 14 random accesses to two objects of 3 bytes. Each has its effect at a moment of its own,
+    but some loads return other bytes."""
+    stored = {0: [0] * 3, 1: [0] * 3}
+    calls = [(0, 1, 0, "new 0 3 0 -> object 5 at 1000"), (2, 3, 0, "new 1 3 0 -> object 6 at 2000")]
+    for worker in range(1, 15):
+        moment, cell = 40 + 10 * worker, source.choice((0, 0, 0, 1))
+        offset, count = source.randrange(2), source.randint(1, 2)
+        if source.randrange(2):
+            stored[cell][offset:offset + count] = [source.randrange(3)] * count
+            deed = f"put {cell} {offset} {f'{stored[cell][offset]:02x}' * count} -> done"
+        else:
+            wrong = source.randrange(6) == 0
+            loaded = [source.randrange(3) if wrong else byte for byte in stored[cell][offset:offset + count]]
+            deed = f"get {cell} {offset} {count} -> bytes {bytes(loaded).hex()}"
+        calls.append((moment - source.randrange(30), moment + source.randrange(30), worker, deed))
+    return [f"{worker} {begin} {end} {deed}" for begin, end, worker, deed in sorted(calls)]
 
 
 def tiny_calls(source):

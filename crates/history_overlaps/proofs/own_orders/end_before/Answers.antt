@@ -7,12 +7,12 @@ use Rattle.history_overlaps.proofs.EndBefore.{ended_first, not_both, open_from_f
 use Rattle.history_overlaps.proofs.OpenCalls.{open_count, fewer_open}
 use Rattle.history_overlaps.proofs.own_orders.end_before.Goals as goal
 
-pub returns-then-from-moment-clause-ended : goal.returns-then-from-moment-clause-ended
-returns-then-from-moment-clause-ended c = λ _ len earlier timeds are le up_to. (
+pub returns-then-end_of-moment-clause-ended : goal.returns-then-end_of-moment-clause-ended
+returns-then-end_of-moment-clause-ended c = λ _ len earlier timeds are le up_to. (
   c.loop-number.invariant len earlier timeds are le up_to,
   open_from_first c.args.calls.now timeds c.args.moment c.in-Some.number c.loop-number.judge.judge are
       (subst (λ (numbers : List (Option ℕ)). IsFirstOf c.args.calls.now numbers (Some c.in-Some.number)) c.numbers.ensures c.in-Some.ensures)
-      (let from = c.from.ensures in let end = c.end_of.ensures in let late = c.if-from-moment.true in omega (arith, from, end, late)),
+      (let end = c.end_of.ensures in let late = c.if-end_of-moment.true in omega (arith, end, late)),
 )
 
 pub returns-in_err-end-clause-stopped : goal.returns-in_err-end-clause-stopped
@@ -26,7 +26,7 @@ returns-in_err-end-clause-stopped c =
 pub returns-then-not-branch-clause-refuted : goal.returns-then-not-branch-clause-refuted
 returns-then-not-branch-clause-refuted c = λ _ len earlier timeds are le up_to.
     refuted_first c.args.calls.now len timeds c.args.moment c.in-Some.number c.loop-number.judge c.end.new.self are
-    (let from = c.from.ensures in let end = c.end_of.ensures in let early = c.if-from-moment.false in omega (arith, from, end, early))
+    (let end = c.end_of.ensures in let early = c.if-end_of-moment.false in omega (arith, end, early))
     c.in_ok-end.ensures.open (c.in_ok-end.ensures.follows (first_state len) timeds) (c.loop-number.invariant len earlier timeds are le up_to)
     (λ some. not_both c.in_ok-end.field-0 (c.in_ok-end.ensures.left.1 some) c.if-not-branch.true)
 
@@ -39,7 +39,7 @@ loop-number-smaller c =
 pub loop-number-preserved : goal.loop-number-preserved
 loop-number-preserved c = λ len earlier timeds are le up_to.
     ended_first c.args.calls.now len timeds c.args.moment c.in-Some.number c.loop-number.judge c.end.new.self are
-    (let from = c.from.ensures in let end = c.end_of.ensures in let early = c.if-from-moment.false in omega (arith, from, end, early))
+    (let end = c.end_of.ensures in let early = c.if-end_of-moment.false in omega (arith, end, early))
     c.in_ok-end.ensures.open (c.in_ok-end.ensures.follows (first_state len) timeds) (c.loop-number.invariant len earlier timeds are le up_to)
     (c.in_ok-end.ensures.left.0 c.if-not-branch.false)
 

@@ -4,7 +4,7 @@ use Rattle.run_program.specs.Checks.{EndsCheck}
 use Rattle.run_program.specs.Runs.{HasTold}
 use Rattle.run_program.specs.Seen.{Seen, seen}
 use Rattle.run_program.proofs.CheckEnds.{check_ends, check_stops}
-use Rattle.run_program.proofs.OrderEnds.{keeps_same}
+use Rattle.run_program.proofs.CertificateEnds.{keeps_same}
 use Rattle.run_program.proofs.check.check_run.Goals as goal
 
 pub returns-in-Err : goal.returns-in-Err

@@ -15,9 +15,9 @@ module _ (c : goal.In_ok-set) where
   starts : (calls : List Call) (call : Call) → length calls ≡ c.args.number → call.end ≡ c.args.end
       → StartsWaiting calls call (waits_of c.args.self.now) (get nat_cmp c.set.new.map) c.in_ok-pending.pending
   starts calls call long ends =
-      let key : c.from.result * 4294967296 + c.from-2.result ≡ key_of call (length calls) = (let a = c.from.ensures in let b = c.from-2.ensures in omega (arith, a, b, long, ends)) in
+      let key : c.args.end * 4294967296 + c.from.result ≡ key_of call (length calls) = (let b = c.from.ensures in omega (arith, b, long, ends)) in
       let set = subst (λ (k : ℕ). IsSetAt (get nat_cmp c.begun.new.self.waiting) (get nat_cmp c.set.new.map) k (Some c.in_ok-pending.pending)) key
-      (set_at c.begun.new.self.waiting c.set.new.map (c.from.result * 4294967296 + c.from-2.result) (Some c.in_ok-pending.pending) c.in_ok-set.ensures) in
+      (set_at c.begun.new.self.waiting c.set.new.map (c.args.end * 4294967296 + c.from.result) (Some c.in_ok-pending.pending) c.in_ok-set.ensures) in
       record { now = set.0; others = λ q apart. set.1 q apart ∙ ap (λ (m : BTreeMap ℕ Pending). get nat_cmp m q) c.in_ok-pending.ensures.waiting }
 
 pub returns-clause-stands : goal.returns-clause-stands

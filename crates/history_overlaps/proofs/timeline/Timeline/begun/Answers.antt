@@ -12,6 +12,8 @@ use Rattle.history_overlaps.specs.Standing.{HasBegunSo, IsMisusedSo, lives_of}
 use Rattle.history_overlaps.specs.Timelines.{FewOpen}
 use Rattle.history_overlaps.specs.declared.life.Life.{Life}
 use Rattle.history_overlaps.proofs.BeginSteps.{few_more}
+use Rattle.history_overlaps.specs.Stops.{IsStoppedSo, IsWithinLimits}
+use Rattle.history_overlaps.proofs.Stopped.{within_limits}
 use Rattle.history_overlaps.proofs.timeline.Timeline.begun.Goals as goal
 
 on_ok : {T E P : Type 0} (r : Result T E) → P → OnOk r P
@@ -71,3 +73,26 @@ pub returns-in-Addr-clause-misused : goal.returns-in-Addr-clause-misused
 returns-in-Addr-clause-misused c = IfErr-weaker c.access_begun-in-Addr.result _ (IsMisusedSo c.args.self.now c.args.number (plain_entry c.args.entry.now))
     (λ broken misused. misused (ap (λ (s : SpeltCommand). is_access (plain_command s)) c.in-Addr.is) (ap (λ (s : SpeltCommand). cell_of (plain_command s)) c.in-Addr.is))
     c.access_begun-in-Addr.ensures.misused
+
+pub returns-in-New-clause-stopped : goal.returns-in-New-clause-stopped
+returns-in-New-clause-stopped c = IfErr-weaker c.new_begun.result IsWithinLimits (IsStoppedSo c.args.self.now c.args.number (plain_entry c.args.entry.now))
+    (within_limits c.args.self.now c.args.number (plain_entry c.args.entry.now)) c.new_begun.ensures.within
+
+pub returns-in-Free-clause-stopped : goal.returns-in-Free-clause-stopped
+returns-in-Free-clause-stopped c = IfErr-weaker c.free_begun.result IsWithinLimits (IsStoppedSo c.args.self.now c.args.number (plain_entry c.args.entry.now))
+    (within_limits c.args.self.now c.args.number (plain_entry c.args.entry.now)) c.free_begun.ensures.within
+
+pub returns-in-Put-clause-stopped : goal.returns-in-Put-clause-stopped
+returns-in-Put-clause-stopped c = IfErr-weaker c.access_begun.result _ (IsStoppedSo c.args.self.now c.args.number (plain_entry c.args.entry.now))
+    (λ not_begun stopped. stopped (ap (λ (s : SpeltCommand). is_access (plain_command s)) c.in-Put.is) (ap (λ (s : SpeltCommand). cell_of (plain_command s)) c.in-Put.is))
+    c.access_begun.ensures.stopped
+
+pub returns-in-Get-clause-stopped : goal.returns-in-Get-clause-stopped
+returns-in-Get-clause-stopped c = IfErr-weaker c.access_begun-in-Get.result _ (IsStoppedSo c.args.self.now c.args.number (plain_entry c.args.entry.now))
+    (λ not_begun stopped. stopped (ap (λ (s : SpeltCommand). is_access (plain_command s)) c.in-Get.is) (ap (λ (s : SpeltCommand). cell_of (plain_command s)) c.in-Get.is))
+    c.access_begun-in-Get.ensures.stopped
+
+pub returns-in-Addr-clause-stopped : goal.returns-in-Addr-clause-stopped
+returns-in-Addr-clause-stopped c = IfErr-weaker c.access_begun-in-Addr.result _ (IsStoppedSo c.args.self.now c.args.number (plain_entry c.args.entry.now))
+    (λ not_begun stopped. stopped (ap (λ (s : SpeltCommand). is_access (plain_command s)) c.in-Addr.is) (ap (λ (s : SpeltCommand). cell_of (plain_command s)) c.in-Addr.is))
+    c.access_begun-in-Addr.ensures.stopped

@@ -7,6 +7,7 @@ use Rattle.history_overlaps.specs.declared.flaws.Flaw.{Flaw}
 use Rattle.history_overlaps.specs.declared.pending.Pending.{Pending}
 use Rattle.history_overlaps.specs.declared.timeline.Timeline.{Timeline}
 use Rattle.history_overlaps.proofs.EndSteps.{ended_one, flawed_one, is_ending}
+use Rattle.history_overlaps.proofs.Stopped.{stopped_one}
 use Rattle.history_overlaps.proofs.timeline.Timeline.end_before.Goals as goal
 
 -- a timeline of which other calls wait
@@ -44,3 +45,10 @@ returns-in-Ok-Some-clause-flawed c =
     let flawed = subst (λ (o : Option Flaw). IfSome o (IsFlawed taken c.in-Some.number c.in-Some.pending)) c.in-Ok-Some.field-0-is c.in-Ok-Some.ensures.flawed in
     flawed_one c.args.self.now c.loop-number.self taken c.args.moment c.in-Some.number c.in-Some.pending c.in-Ok-Some.flaw c.loop-number.invariant.ended
     c.in-Some.ensures.some (λ calls waits stands. stands) flawed
+
+pub returns-in-Err-clause-stopped : goal.returns-in-Err-clause-stopped
+returns-in-Err-clause-stopped c =
+    let taken = with_waiting c.loop-number.self c.first_before.new.waiting in
+    stopped_one c.args.self.now c.loop-number.self taken c.args.moment c.in-Some.number c.args.most c.in-Some.pending c.in-Err.fault c.loop-number.invariant.ended
+    c.in-Some.ensures.some (λ calls waits stands. stands)
+    c.in-Err.ensures.stopped

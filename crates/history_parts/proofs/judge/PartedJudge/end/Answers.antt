@@ -1,12 +1,12 @@
 use Rattle.std.proofs.Common.{◌≢◌, ◌↔◌, inl, inr, ℕ, Err, ap, subst}
 use Rattle.std.specs.Option.{IfSome}
 use Rattle.history_object.specs.declared.access.Access.{Access}
-use Rattle.history_object.specs.Following.{IsOpen, TimedStanding}
+use Rattle.history_object.specs.Following.{IsCallOf, IsOpen, TimedStanding}
 use Rattle.history_object.specs.ObjectBytes.{State, effect}
 use Rattle.history_object.proofs.Found.{returned}
 use Rattle.history_object.proofs.Followed.{IsFollowedToEnd}
 use Rattle.history_parts.specs.Parts.{HasMoreBeside, HasMoreJoined, IsRefutedBeside, whole}
-use Rattle.history_parts.proofs.Whole.{end_aside, end_follows, end_free, end_open, end_refuted, end_some, more_beside}
+use Rattle.history_parts.proofs.Whole.{end_aside, end_calls, end_follows, end_free, end_open, end_refuted, end_some, more_beside}
 use Rattle.history_parts.proofs.judge.PartedJudge.end.Goals as goal
 
 pub set_aside-requires-clause-aside : goal.set_aside-requires-clause-aside
@@ -26,6 +26,12 @@ returns-clause-open c =
     (end_open c.args.number c.self.inside.judge c.join.new.judge c.end.new.self c.set_aside.new.judge c.self.inside.parts.items c.join.new.parts.items
     c.set_aside.new.parts.items c.in_ok-join.ensures.same c.in_ok-join.ensures.aside c.in_ok-join.ensures.free c.in_ok-ended.ensures.place c.in_ok-set_aside.ensures.same
     c.in_ok-ended.ensures.open)
+
+pub returns-clause-calls : goal.returns-clause-calls
+returns-clause-calls c =
+    subst (λ (j : TimedStanding State Access). (n : ℕ) (access : Access) → IsCallOf (whole c.set_aside.new.judge c.set_aside.new.parts.items) n access → IsCallOf j n access) c.self.view_is
+    (end_calls c.args.number c.self.inside.judge c.join.new.judge c.end.new.self c.set_aside.new.judge c.self.inside.parts.items c.join.new.parts.items
+    c.set_aside.new.parts.items c.in_ok-join.ensures.same c.in_ok-join.ensures.aside c.in_ok-join.ensures.free c.in_ok-ended.ensures.place c.in_ok-set_aside.ensures.same)
 
 pub returns-clause-some : goal.returns-clause-some
 returns-clause-some c =

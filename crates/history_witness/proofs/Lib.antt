@@ -1,0 +1,12 @@
+mod AccessEffects
+mod CallsCome
+mod KeptLines
+mod LiftedOrders
+mod PlacedCalls
+mod PlainCalls
+mod Refuted
+mod SeenStores
+mod SliceAccesses
+mod SliceExplained
+mod SliceHistory
+mod SliceTests

@@ -1,0 +1,5 @@
+pub mod SliceExamples
+pub mod SliceLaws
+pub mod Slices
+pub mod TakenLines
+pub mod Witnesses
