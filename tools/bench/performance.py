@@ -18,8 +18,8 @@ import sys
 TOP = pathlib.Path(__file__).resolve().parent.parent.parent
 PAGE = TOP / "docs/PERFORMANCE.md"
 PROGRAM = "crates/meshrun/out/meshrun"
-# The tools that measure a crate instead of the program.
-WITHOUT_PROGRAM = {"search", "arena", "index"}
+# The tools that measure a crate or an example instead of the program.
+WITHOUT_PROGRAM = {"search", "arena", "index", "record_malloc"}
 # A block: its name, and what is written between the two comments.
 BLOCK = re.compile(r"(<!-- figures: tools/bench/(\w+)\.sh -->\n).*?(<!-- end of figures -->)", re.DOTALL)
 
