@@ -7,7 +7,7 @@
  *     LD_PRELOAD=$PWD/record_malloc.so RECORD=h.history python3 -c 'print(sorted(map(str, range(1000)))[7])'
  *     meshrun check h.history
  *
- *     LD_PRELOAD=$PWD/record_malloc.so RECORD=h.raw RECORD_STAMPS=1 xz -T4 -k FILE
+ *     LD_PRELOAD=$PWD/record_malloc.so RECORD=h.raw RECORD_STAMPS=1 xz --threads=4 -k FILE
  *     record_merge h.raw >h.history
  *     meshrun check h.history
  *
