@@ -2,7 +2,7 @@
  * it ended, and merges the calls of all threads into a history that `meshrun check` judges. C11 and POSIX.
  *
  *     static struct recorder recorder;
- *     record_open(&recorder, "run.record", 4, 1000000);           4 threads, room for a million calls of each
+ *     record_open(&recorder, "run.record", 4, 1000000);           4 threads, room for a million slots of each
  *
  *     struct record_worker *self = &recorder.workers[number];     in thread `number`, 0 to 3
  *     uint32_t cell;                                              the number of the object
@@ -21,14 +21,17 @@
  * the other clock (see below). docs/TESTING_AN_ALLOCATOR.md has the rules for a driver, docs/FORMAT.md the lines.
  * `racing_real.c`, next to this file, is a user; `merge_record.c` merges after a crash.
  *
- * Recording. Each thread writes to a part of its own of one mapped file, 64 bytes a call. While a call is recorded no
- * lock is held, nothing is allocated and the system isn't called, so the allocator may be `malloc` itself. The file is
- * sparse: room that isn't used takes no space. On a file system in memory, such as /dev/shm, nothing is written to a
+ * Recording. Each thread writes to a part of its own of one mapped file. A call takes a slot of 64 bytes, and an access
+ * of more than 32 bytes one more slot for each 64 bytes, so one of 4,096 bytes takes 65 slots. While a call is recorded
+ * no lock is held, nothing is allocated and the system isn't called, so the allocator may be `malloc` itself. The file
+ * is sparse: room that isn't used takes no space. On a file system in memory, such as /dev/shm, nothing is written to a
  * disk. If the disk is full, a call ends by SIGBUS. A child of `fork` shares the file, so it must not record.
  *
- * Data. A line of a history has at most 32 bytes, so `record_begin_put` and `record_begin_get` refuse more. The driver
- * makes a longer access in parts, each a call of its own: begin, 32 bytes, end, begin, the next 32 bytes, end. One
- * access can't be recorded as two calls with the same stamps, because a worker makes one call at a time.
+ * Data. An access has 1 to 4,096 bytes. A call has one effect: it loads or stores all of its bytes at one moment. A
+ * `memcpy` doesn't. So record it as one call only if no other thread can touch these bytes meanwhile, except that loads
+ * don't disturb each other. Otherwise make the access in parts, each of at most 8 aligned bytes and by one atomic load
+ * or store, and record each part as a call of its own: begin, 8 bytes, end, begin, the next 8 bytes, end. Parts can't
+ * have the same stamps, because a worker makes one call at a time.
  *
  * Stamps. BEGIN must be taken before the first load or store of the call, END after the last one can be seen by all
  * threads. The order of the instructions isn't enough: a processor delays stores in a buffer and makes loads early. If
@@ -55,6 +58,7 @@
 #include <inttypes.h>
 #include <stdatomic.h>
 #include <stdbool.h>
+#include <stddef.h>
 #include <stdint.h>
 #include <stdio.h>
 #include <string.h>
@@ -66,39 +70,49 @@
 #error "MESH_RECORD_TSC needs x86-64: the counter that is the default runs on any processor"
 #endif
 
-enum { RECORD_MOST_WORKERS = 64, RECORD_MOST_CALLS = 1 << 26, RECORD_MOST_BYTES = 32, RECORD_LINE_BYTES = 64 };
+enum { RECORD_MOST_WORKERS = 64, RECORD_MOST_SLOTS = 1 << 26, RECORD_MOST_BYTES = 4096 };
+enum { RECORD_LINE_BYTES = 64, RECORD_OWN_BYTES = 32 }; /* Of a cache line, and of data in the slot of its call. */
 
 /* The greatest length and offset of a history, and the greatest address. */
 #define RECORD_MOST_LENGTH (UINT64_C(1) << 47)
 #define RECORD_MOST_ADDRESS ((UINT64_C(1) << 48) - 1)
 
-/* ---- The file: a head, and for each worker an array of its calls in their order. ---- */
+/* ---- The file: a head, and for each worker an array of slots, which has its calls in their order. ---- */
 
 struct record_head {
     char magic[16];
-    uint64_t workers, calls; /* Room for so many calls of each worker. */
+    uint64_t workers, slots; /* So many slots of each worker. */
     char unused[RECORD_LINE_BYTES - 32];
 };
 
-static const char record_magic[16] = "mesh record 1\n";
+static const char record_magic[16] = "mesh record 2\n";
 
 enum record_kind { RECORD_NEW = 1, RECORD_PUT, RECORD_GET, RECORD_FREE };
 
-/* A call. BEGIN is 0 until the call begins, and END is 0 while it is pending. The other fields are written before
- * BEGIN, and what the call returned before END, so they are whole after a crash. */
+/* A call, the content of its first slot. BEGIN is 0 until the call begins, and END is 0 while it is pending. The other
+ * fields are written before BEGIN, and what the call returned before END, so they are whole after a crash. */
 struct record_call {
     _Atomic uint64_t begin, end;
     uint64_t number; /* Of `new` the length, of an access the offset. */
     uint32_t cell;
-    unsigned char kind, count, unused[2]; /* `count` is how many bytes an access has. */
+    unsigned char kind, unused;
+    uint16_t count; /* How many bytes an access has. */
     union {
-        unsigned char bytes[RECORD_MOST_BYTES];
-        uint64_t address; /* Of `new`, 0 if it was refused. */
+        unsigned char bytes[RECORD_OWN_BYTES]; /* The first bytes of an access. The others are in the slots behind. */
+        uint64_t address;                      /* Of `new`, 0 if it was refused. */
     };
 };
 
 _Static_assert(sizeof(struct record_head) == RECORD_LINE_BYTES, "the head fills a cache line");
-_Static_assert(sizeof(struct record_call) == RECORD_LINE_BYTES, "a call fills a cache line");
+_Static_assert(sizeof(struct record_call) == RECORD_LINE_BYTES, "a slot fills a cache line");
+enum { RECORD_BYTES_AT = offsetof(struct record_call, bytes) };
+_Static_assert(RECORD_BYTES_AT + RECORD_OWN_BYTES == RECORD_LINE_BYTES, "the bytes go on in the next slot");
+
+/* How many slots a call with so many bytes takes. */
+static inline size_t record_slots(size_t count)
+{
+    return count <= RECORD_OWN_BYTES ? 1 : 1 + (count - RECORD_OWN_BYTES + RECORD_LINE_BYTES - 1) / RECORD_LINE_BYTES;
+}
 
 /* ---- Recording. ---- */
 
@@ -115,16 +129,16 @@ struct recorder {
     struct record_worker workers[RECORD_MOST_WORKERS];
 };
 
-/* Makes the file, with room for so many calls of each worker. Returns false if it can't, with the reason in `errno`:
- * EEXIST if there is such a file, which may be the record of a crash or of another run. The file stays mapped until the
- * program ends. */
-static inline bool record_open(struct recorder *recorder, const char *path, unsigned workers, size_t calls)
+/* Makes the file, with so many slots of each worker. Returns false if it can't, with the reason in `errno`: EEXIST if
+ * there is such a file, which may be the record of a crash or of another run. The file stays mapped until the program
+ * ends. */
+static inline bool record_open(struct recorder *recorder, const char *path, unsigned workers, size_t slots)
 {
-    if (workers < 1 || workers > RECORD_MOST_WORKERS || calls < 1 || calls > RECORD_MOST_CALLS) {
+    if (workers < 1 || workers > RECORD_MOST_WORKERS || slots < 1 || slots > RECORD_MOST_SLOTS) {
         errno = EINVAL;
         return false;
     }
-    size_t bytes = sizeof(struct record_head) + workers * calls * sizeof(struct record_call);
+    size_t bytes = sizeof(struct record_head) + workers * slots * sizeof(struct record_call);
     int file = open(path, O_RDWR | O_CREAT | O_EXCL, 0666);
     if (file < 0)
         return false;
@@ -139,11 +153,11 @@ static inline bool record_open(struct recorder *recorder, const char *path, unsi
 
     struct record_head *head = memory;
     struct record_call *first = (struct record_call *)(head + 1);
-    head->workers = workers, head->calls = calls;
+    head->workers = workers, head->slots = slots;
     memcpy(head->magic, record_magic, sizeof head->magic);
     memset(recorder, 0, sizeof *recorder);
-    for (unsigned w = 0; w < workers; w++, first += calls)
-        recorder->workers[w] = (struct record_worker){ recorder, first, first + calls, 0 };
+    for (unsigned w = 0; w < workers; w++, first += slots)
+        recorder->workers[w] = (struct record_worker){ recorder, first, first + slots, 0 };
     return true;
 }
 
@@ -178,14 +192,15 @@ static inline bool record_begin(struct record_worker *worker, enum record_kind k
         errno = EINVAL;
         return false;
     }
-    if (call == worker->end || call->begin != 0) {
-        errno = call == worker->end ? ENOSPC : EBUSY;
+    bool has_room = (size_t)(worker->end - call) >= record_slots(count);
+    if (!has_room || call->begin != 0) {
+        errno = has_room ? EBUSY : ENOSPC;
         return false;
     }
     call->number = number, call->cell = cell;
-    call->kind = (unsigned char)kind, call->count = (unsigned char)count;
+    call->kind = (unsigned char)kind, call->count = (uint16_t)count;
     if (data != NULL)
-        memcpy(call->bytes, data, count);
+        memcpy((unsigned char *)call + RECORD_BYTES_AT, data, count);
     atomic_store_explicit(&call->begin, record_stamp(worker), memory_order_relaxed);
     /* The compiler must not move this store behind the call, which may crash. */
     atomic_signal_fence(memory_order_seq_cst);
@@ -194,8 +209,7 @@ static inline bool record_begin(struct record_worker *worker, enum record_kind k
 
 /* The driver calls one of these four right before its own call, which it then makes. If one returns false, nothing was
  * recorded and the driver must not make the call: `errno` is EINVAL for a length, an offset or a number of bytes that a
- * history can't have, ENOSPC if there is no room for another call of this worker, and EBUSY if its last call hasn't
- * ended. */
+ * history can't have, ENOSPC if this worker has too few slots left, and EBUSY if its last call hasn't ended. */
 
 /* Begins to make an object of so many bytes, all 0, and gives it a number that no other object has. A length of 0 is
  * recorded as 1, because `malloc(0)` may return an object. */
@@ -205,14 +219,14 @@ static inline bool record_begin_new(struct record_worker *worker, size_t length,
     return record_begin(worker, RECORD_NEW, *cell, length == 0 ? 1 : length, NULL, 0);
 }
 
-/* Begins to store 1 to 32 bytes, from this offset of the object on. */
+/* Begins to store 1 to 4,096 bytes, from this offset of the object on. */
 static inline bool record_begin_put(struct record_worker *worker, uint32_t cell, size_t offset, const void *data,
                                     size_t count)
 {
     return record_begin(worker, RECORD_PUT, cell, offset, data, count);
 }
 
-/* Begins to load 1 to 32 bytes, from this offset of the object on. */
+/* Begins to load 1 to 4,096 bytes, from this offset of the object on. */
 static inline bool record_begin_get(struct record_worker *worker, uint32_t cell, size_t offset, size_t count)
 {
     return record_begin(worker, RECORD_GET, cell, offset, NULL, count);
@@ -227,13 +241,13 @@ static inline bool record_begin_free(struct record_worker *worker, uint32_t cell
 static inline void record_end(struct record_worker *worker)
 {
     atomic_store_explicit(&worker->next->end, record_stamp(worker), memory_order_release);
-    worker->next++;
+    worker->next += record_slots(worker->next->count);
 }
 
 /* Ends a load, which returned these bytes. */
 static inline void record_end_get(struct record_worker *worker, const void *data)
 {
-    memcpy(worker->next->bytes, data, worker->next->count);
+    memcpy((unsigned char *)worker->next + RECORD_BYTES_AT, data, worker->next->count);
     record_end(worker);
 }
 
@@ -274,8 +288,12 @@ static inline void record_write_end(FILE *out, const struct record_call *call)
 
 static inline void record_write_bytes(FILE *out, const struct record_call *call)
 {
-    for (unsigned i = 0; i < call->count; i++)
-        fprintf(out, "%02x", call->bytes[i]);
+    static const char digits[] = "0123456789abcdef";
+    const unsigned char *bytes = (const unsigned char *)call + RECORD_BYTES_AT;
+    for (unsigned i = 0; i < call->count; i++) {
+        fputc(digits[bytes[i] / 16], out);
+        fputc(digits[bytes[i] % 16], out);
+    }
 }
 
 static inline void record_write_command(FILE *out, const struct record_call *call)
@@ -321,13 +339,15 @@ static inline void record_write_call(FILE *out, unsigned worker, const struct re
     fputc('\n', out);
 }
 
-/* Whether a call can have been written by this header, behind its worker's last one. The recorded program may have
- * stored to any memory. */
-static inline bool record_is_whole(const struct record_call *call, const struct record_call *last)
+/* Whether the next call of a worker can have been written by this header, behind its last one. The recorded program may
+ * have stored to any memory. */
+static inline bool record_is_whole(const struct record_cursor *cursor)
 {
+    const struct record_call *call = cursor->next, *last = cursor->last;
     bool is_access = call->kind == RECORD_PUT || call->kind == RECORD_GET;
     return call->kind >= RECORD_NEW && call->kind <= RECORD_FREE && call->number <= RECORD_MOST_LENGTH &&
            call->count <= RECORD_MOST_BYTES && is_access == (call->count > 0) &&
+           (size_t)(cursor->end - call) >= record_slots(call->count) &&
            (call->kind != RECORD_NEW || call->end == 0 || call->address <= RECORD_MOST_ADDRESS) &&
            record_end_of(call) > call->begin && (last == NULL || record_end_of(last) < call->begin);
 }
@@ -375,8 +395,8 @@ static inline const struct record_head *record_map(const char *path, size_t *byt
     close(file);
     const struct record_head *head = memory;
     if (memory != MAP_FAILED && memcmp(head->magic, record_magic, sizeof head->magic) == 0 && head->workers >= 1 &&
-        head->workers <= RECORD_MOST_WORKERS && head->calls <= RECORD_MOST_CALLS &&
-        *bytes == sizeof *head + head->workers * head->calls * sizeof(struct record_call))
+        head->workers <= RECORD_MOST_WORKERS && head->slots <= RECORD_MOST_SLOTS &&
+        *bytes == sizeof *head + head->workers * head->slots * sizeof(struct record_call))
         return head;
     if (memory != MAP_FAILED)
         munmap(memory, *bytes);
@@ -391,13 +411,13 @@ static inline bool record_write_calls(FILE *out, const struct record_head *head,
     struct record_cursor cursors[RECORD_MOST_WORKERS];
     unsigned workers = (unsigned)head->workers, w;
     for (w = 0; w < workers; w++) {
-        const struct record_call *first = (const struct record_call *)(head + 1) + w * head->calls;
-        cursors[w] = (struct record_cursor){ first, first + head->calls, NULL };
+        const struct record_call *first = (const struct record_call *)(head + 1) + w * head->slots;
+        cursors[w] = (struct record_cursor){ first, first + head->slots, NULL };
     }
     fprintf(out, "history 2\n");
     while ((w = record_earliest(cursors, workers)) < workers) {
-        const struct record_call *call = cursors[w].next++;
-        if (!record_is_whole(call, cursors[w].last)) {
+        const struct record_call *call = cursors[w].next;
+        if (!record_is_whole(&cursors[w])) {
             fprintf(stderr, "a call of worker %u was overwritten, after %" PRIu64 " calls of all\n", w, counts->calls);
             return false;
         }
@@ -406,6 +426,7 @@ static inline bool record_write_calls(FILE *out, const struct record_head *head,
         counts->overlaps += record_overlaps(cursors, workers, call);
         record_write_call(out, w, call);
         cursors[w].last = call;
+        cursors[w].next += record_slots(call->count);
     }
     if (fflush(out) == 0 && !ferror(out))
         return true;

@@ -26,9 +26,13 @@
  *
  * The last three have a pool of blocks instead of `malloc`. With --pool the pool is used without a bug.
  *
+ * With --copies each thread also copies 4,096 bytes to and from an object of its own. No other thread touches this
+ * object, so each `memcpy` is one call of the history.
+ *
  * The calls are recorded in the file racing_real.record (--record FILE), which is removed when it was merged. With
  * --crash-after N the first thread aborts within its first store after N calls, when others may have loaded what it
- * stored. Then the file is left, and merge_record makes a history of it.
+ * stored. With --copies, it aborts within a store of 4,096 bytes. Then the file is left, and merge_record makes a
+ * history of it.
  *
  * A line on standard error has the number of calls, of pairs of calls on one object that overlapped, and how often the
  * bug struck. The status is 1 if it never did, or if the calls can't be recorded, and 2 for a wrong command line.
@@ -42,6 +46,7 @@
 #include "mesh_record.h"
 
 enum { MOST_THREADS = 16, MOST_OBJECTS = 64, WORD_BYTES = 8, MOST_WORDS = 16 };
+enum { COPIED_BYTES = RECORD_MOST_BYTES, OWN_BYTES = 3 * COPIED_BYTES };
 
 /* Objects consist of words, and each access is of one word. */
 typedef _Atomic uint64_t word;
@@ -50,7 +55,7 @@ enum bug { NO_BUG, LOST_STORE, STALE_LOAD, TORN_STORE, UNCLEARED, DOUBLE, USE_AF
 static const char *const bug_names[BUGS] = { "", "lost-store", "stale-load", "torn-store", "uncleared", "double",
                                              "use-after-free", "aba" };
 static enum bug bug;
-static bool has_pool;
+static bool has_pool, has_copies;
 static atomic_ulong strikes; /* of the bug */
 
 /* An object, and its number in the history. */
@@ -70,6 +75,8 @@ struct worker {
     uint32_t loaded_cell;
     uint64_t loaded_value;
     struct block *freed; /* For `use-after-free`: the block that was freed last. */
+    char *own;           /* For --copies: the object of this thread, or NULL, and its number. */
+    uint32_t own_cell;
 };
 static struct worker workers[MOST_THREADS];
 
@@ -285,15 +292,22 @@ static void load(struct worker *worker, const struct object *object, unsigned in
     record_end_get(worker->record, &value);
 }
 
+/* Ends the program within a store of the first thread, after the calls of --crash-after. */
+static void crash_in_time(const struct worker *worker)
+{
+    if (given.crash_after != 0 && worker == workers && worker->calls > given.crash_after) {
+        let_others_run(16);
+        abort();
+    }
+}
+
 static void store(struct worker *worker, const struct object *object, unsigned index)
 {
     uint64_t value = (uint64_t)random_below(worker, UINT32_MAX) << 32 | random_below(worker, UINT32_MAX);
     begun(worker, record_begin_put(worker->record, object->cell, index * WORD_BYTES, &value, WORD_BYTES));
     real_put(worker, &object->address[index], value);
-    if (given.crash_after != 0 && worker == workers && worker->calls > given.crash_after) {
-        let_others_run(16);
-        abort();
-    }
+    if (!has_copies)
+        crash_in_time(worker);
     record_end(worker->record);
 }
 
@@ -316,12 +330,65 @@ static void change_object(struct worker *worker, struct object *object)
         make(worker, object);
 }
 
+static void make_own(struct worker *worker)
+{
+    begun(worker, record_begin_new(worker->record, OWN_BYTES, &worker->own_cell));
+    worker->own = calloc(1, OWN_BYTES);
+    record_end_new(worker->record, worker->own);
+}
+
+static void release_own(struct worker *worker)
+{
+    begun(worker, record_begin_free(worker->record, worker->own_cell));
+    free(worker->own);
+    record_end(worker->record);
+    worker->own = NULL;
+}
+
+static void load_own(struct worker *worker, unsigned offset)
+{
+    char bytes[COPIED_BYTES];
+    begun(worker, record_begin_get(worker->record, worker->own_cell, offset, COPIED_BYTES));
+    memcpy(bytes, worker->own + offset, COPIED_BYTES);
+    record_end_get(worker->record, bytes);
+}
+
+static void store_own(struct worker *worker, unsigned offset)
+{
+    char bytes[COPIED_BYTES];
+    for (unsigned i = 0; i < COPIED_BYTES; i++)
+        bytes[i] = (char)random_below(worker, 256);
+    begun(worker, record_begin_put(worker->record, worker->own_cell, offset, bytes, COPIED_BYTES));
+    memcpy(worker->own + offset, bytes, COPIED_BYTES / 2);
+    crash_in_time(worker);
+    memcpy(worker->own + offset + COPIED_BYTES / 2, bytes + COPIED_BYTES / 2, COPIED_BYTES / 2);
+    record_end(worker->record);
+}
+
+/* Copies to or from the object that no other thread touches; sometimes makes or frees it. */
+static void use_own(struct worker *worker)
+{
+    unsigned offset = random_below(worker, OWN_BYTES - COPIED_BYTES + 1);
+    if (worker->own == NULL)
+        make_own(worker);
+    else if (random_below(worker, 8) == 0)
+        release_own(worker);
+    else if (random_below(worker, 2) == 0)
+        load_own(worker, offset);
+    else
+        store_own(worker, offset);
+}
+
 static void *work(void *own)
 {
     struct worker *worker = own;
     while (!has_begun)
         let_others_run(1);
     while (worker->calls < given.calls) {
+        if (has_copies && random_below(worker, 16) == 0) {
+            use_own(worker);
+            continue;
+        }
         struct place *place = &places[random_below(worker, (unsigned)given.objects)];
         bool is_change = random_below(worker, has_pool ? 4 : 16) == 0;
         if ((is_change ? pthread_rwlock_trywrlock : pthread_rwlock_rdlock)(&place->lock) != 0)
@@ -352,6 +419,9 @@ static bool run(void)
     for (unsigned i = 0; i < given.objects; i++)
         if (places[i].object.address != NULL)
             release(workers, &places[i].object);
+    for (unsigned w = 0; w < given.threads; w++)
+        if (workers[w].own != NULL)
+            release_own(&workers[w]);
     return true;
 }
 
@@ -375,6 +445,10 @@ static const char *read_options(int count, char **words)
     for (int i = 1; i < count; i++) {
         if (strcmp(words[i], "--pool") == 0) {
             has_pool = true;
+            continue;
+        }
+        if (strcmp(words[i], "--copies") == 0) {
+            has_copies = true;
             continue;
         }
         const char *value = ++i < count ? words[i] : "";
@@ -403,11 +477,12 @@ int main(int count, char **words)
     const char *record = read_options(count, words);
     struct record_counts counts;
     if (record == NULL) {
-        fputs("racing_real [--threads T] [--calls N] [--objects O] [--seed S] [--bug NAME] [--pool] [--record FILE] "
-              "[--crash-after N]\n", stderr);
+        fputs("racing_real [--threads T] [--calls N] [--objects O] [--seed S] [--bug NAME] [--pool] [--copies] "
+              "[--record FILE] [--crash-after N]\n", stderr);
         return 2;
     }
-    if (!record_open(&recorder, record, (unsigned)given.threads, given.calls + MOST_OBJECTS)) {
+    size_t slots = (given.calls + MOST_OBJECTS) * (has_copies ? record_slots(COPIED_BYTES) : 1);
+    if (!record_open(&recorder, record, (unsigned)given.threads, slots)) {
         perror(record);
         return 1;
     }

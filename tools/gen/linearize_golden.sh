@@ -17,6 +17,8 @@
 # - random_300_overlap: 187 --calls 300
 # - random_500_other_bytes: 90 --calls 500
 # - random_500_not_before_its_free: 136 --calls 500
+# - random_60_long_right: 6 --calls 60 --long --right
+# - random_60_long_other_byte: 20 --calls 60 --long
 
 cd "$(dirname "$0")/../.." || exit 2
 failed=0

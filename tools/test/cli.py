@@ -16,6 +16,7 @@ import sys
 import tempfile
 
 from cli import (
+    accesses,
     check,
     command_line,
     draw,
@@ -43,6 +44,7 @@ TESTED = {
     "live": live,
     "check": check,
     "overlaps": overlaps,
+    "accesses": accesses,
     "histories": histories,
     "reasons": reasons,
     "record": record,

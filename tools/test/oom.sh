@@ -261,6 +261,19 @@ wanted=$room/ordered.history
 spared=$most
 refuse_each "meshrun check --order" \
     replay_fault "$meshrun" check $overlapping/calls_that_touch.history --order
+wanted=$overlapping/store_of_4096_bytes.out
+refuse_each "meshrun check of long accesses" replay_fault "$meshrun" check $overlapping/store_of_4096_bytes.history
+wanted=$overlapping/last_of_4096_bytes_differs.out
+refuse_each "meshrun check of a long load that differs" \
+    verdict_fault "$meshrun" check $overlapping/last_of_4096_bytes_differs.history
+digits=$(printf '%08192d' 7)
+{
+    printf 'history 1\n0 new 0 5000 0 -> object 0 at 1000\n0 put 0 100 %s -> done\n' "$digits"
+    printf '0 copy 0 200 0 100 4096 -> done\n0 get 0 200 4096 -> bytes %s\n' "$digits"
+} >"$room/copied.history"
+echo 'legal 4 entries' >"$room/copied.out"
+wanted=$room/copied.out
+refuse_each "meshrun check of a long copy" replay_fault "$meshrun" check "$room/copied.history"
 savings=histories/savings/more_with_meshing
 wanted=$savings.out
 spare "$meshrun" savings "$room/no file"

@@ -1,5 +1,6 @@
 //! Tests of pools, sets of numbers, timed judges, judges of parts, and the bytes of objects.
 
+mod bytes;
 mod number_sets;
 mod objects;
 mod parted_judges;

@@ -10,7 +10,7 @@ use Rattle.text_words.specs.ReplyWords.{answer_in}
 
 -- whether the text spells an answer. An answer has at most four fields
 abbrev pub is_spelt : List ℕ → Bool
-is_spelt text = not (list_any is_empty (line_fields text)) && (nat_le (length (line_fields text)) 4 && is_ok (answer_in (line_fields text)))
+is_spelt text = not (list_any is_empty (line_fields text)) && (nat_le (length (line_fields text)) 4 && is_ok (answer_in 32 (line_fields text)))
 
 -- whether an answer with the least numbers and bytes that isn't refused begins with this text
 abbrev pub begins_kind : List ℕ → Bool

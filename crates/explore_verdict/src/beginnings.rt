@@ -3,7 +3,7 @@ ghost use Rattle.std.specs.Prelude.{◌≡◌, ◌++◌, IfOk};
 ghost use Rattle.std.specs.List.{list_any};
 ghost use Rattle.explore_verdict.specs.Beginnings.{begins_answer, begins_kind, begins_with, has_ending, is_begun, is_spelt, refusals};
 
-use model_words::Refusal;
+use model_words::{MAX_BYTES, Refusal};
 use std::alloc::{AllocError, Global};
 use text_fields::lines::fields_up_to;
 use text_words::{add_refusal, reply_of};
@@ -33,14 +33,14 @@ const REFUSALS: [Refusal; 17] = [
 ];
 
 /// Whether the text spells an answer.
-pub(crate) fn is_spelt(text: &[u8]) -> bool
+pub(crate) fn is_spelt(alloc: Global, text: &[u8]) -> bool
     ensures { result ≡ is_spelt text.now }
 {
     let Ok(fields) = fields_up_to::<MOST_FIELDS>(text) else {
         return false;
     };
     match fields.as_slice() {
-        [word, behind @ ..] => reply_of(word, behind).is_ok(),
+        [word, behind @ ..] => reply_of(alloc, MAX_BYTES, word, behind).is_ok(),
         [] => false,
     }
 }
@@ -108,7 +108,7 @@ fn has_ending(alloc: Global, front: &[u8]) -> Result<bool, AllocError>
     ensures { IfOk result (λ has. has ≡ has_ending front.now) }
 {
     Ok(
-        is_spelt(front)
+        is_spelt(alloc, front)
             || ends_with(alloc, front, b"0")?
             || ends_with(alloc, front, b" at 0")?
             || ends_with(alloc, front, b"at 0")?
@@ -124,5 +124,5 @@ fn ends_with(alloc: Global, front: &[u8], ending: &[u8]) -> Result<bool, AllocEr
     let mut text = Vec::new(alloc);
     text.extend_from_slice(front)?;
     text.extend_from_slice(ending)?;
-    Ok(is_spelt(text.as_slice()))
+    Ok(is_spelt(alloc, text.as_slice()))
 }

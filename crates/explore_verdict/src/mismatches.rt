@@ -156,5 +156,5 @@ fn are_answers(alloc: Global, pieces: &[Block]) -> Result<bool, AllocError>
 fn is_answer(alloc: Global, piece: &[u8]) -> Result<bool, AllocError>
     ensures { IfOk result (λ is. is ≡ is_answer piece.now) }
 {
-    Ok(is_spelt(inner(piece)) || is_begun(alloc, inner(piece))?)
+    Ok(is_spelt(alloc, inner(piece)) || is_begun(alloc, inner(piece))?)
 }

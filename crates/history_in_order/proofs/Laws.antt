@@ -128,8 +128,8 @@ ended_by false false none lines f f' f'' = refl
 end_cases : (lines : ℕ) (rest : List ℕ)
     → end_of lines rest
     ≡ (if is_full lines then (if is_empty rest then Legal (lines - 1) else Faulty too_long)
-    else (if is_empty rest then (if nat_eq lines 0 then Faulty (fault_at 1 Cut) else Legal (lines - 1)) else Faulty (fault_at (lines + 1) (rest_fault rest))))
-end_cases lines rest = ended_by (is_full lines) (is_empty rest) (nat_eq lines 0) lines too_long (fault_at 1 Cut) (fault_at (lines + 1) (rest_fault rest))
+    else (if is_empty rest then (if nat_eq lines 0 then Faulty (fault_at 1 Cut) else Legal (lines - 1)) else Faulty (fault_at (lines + 1) (rest_fault 16384 rest))))
+end_cases lines rest = ended_by (is_full lines) (is_empty rest) (nat_eq lines 0) lines too_long (fault_at 1 Cut) (fault_at (lines + 1) (rest_fault 16384 rest))
 
 -- where a text ends no entry is found wrong
 not_wrong : (full empty none : Bool) (k line : ℕ) (f f' f'' : TextFault)

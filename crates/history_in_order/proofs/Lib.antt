@@ -9,4 +9,5 @@ mod Overwritten
 pub mod Ranges
 pub mod ReasonTexts
 pub mod Roots
+mod Runs
 pub mod Trees

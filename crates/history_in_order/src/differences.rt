@@ -1,13 +1,12 @@
 //! The difference between an answer and the expected one.
-ghost use Rattle.std.specs.Prelude.{◌≡◌, ◌≢◌, ◌↔◌, IfSome, IsTrue, IsNone, IsSome};
+ghost use Rattle.std.specs.Prelude.{◌≡◌, ◌≢◌, ◌↔◌, IfOk, IfSome, IsTrue, IsNone, IsSome};
 ghost use Rattle.text_words.specs.RecordedWords.{plain_reply};
 ghost use Rattle.history_in_order.specs.Differences.{IsFirst, bytes_of};
 ghost use Rattle.history_in_order.specs.Reasons.{IsDifference, is_refusal};
 
 use crate::reasons::{Difference, DifferentByte, LiveRefusal, Reason};
-use arrayvec::ArrayVec;
 use history_reading::RecordedReply;
-use model_words::MAX_BYTES;
+use std::alloc::AllocError;
 use std::array;
 
 /// Returns the reason to reject an answer that differs from the expected one: `LiveRefused` if the answer is a refusal
@@ -43,27 +42,18 @@ fn is_refusal(reply: &RecordedReply) -> bool
     matches!(reply, RecordedReply::Refused(_))
 }
 
-/// Returns a copy of a reply. Nothing is allocated.
-pub fn copied(reply: &RecordedReply) -> RecordedReply
-    ensures { result ≡ reply.now }
+/// Returns a copy of a reply. Nothing is allocated, unless the reply has more than 32 bytes.
+pub fn copied(reply: &RecordedReply) -> Result<RecordedReply, AllocError>
+    ensures { IfOk result (λ copy. copy ≡ reply.now) }
 {
-    match reply {
+    Ok(match reply {
         RecordedReply::Object(serial, address) => RecordedReply::Object(*serial, *address),
         RecordedReply::Done => RecordedReply::Done,
-        RecordedReply::Bytes(bytes) => RecordedReply::Bytes(copied_bytes(bytes)),
+        RecordedReply::Bytes(bytes) => RecordedReply::Bytes(bytes.clone()?),
         RecordedReply::At(address) => RecordedReply::At(*address),
         RecordedReply::Byte(byte) => RecordedReply::Byte(*byte),
         RecordedReply::Refused(refusal) => RecordedReply::Refused(*refusal),
-    }
-}
-
-/// Returns a copy of bytes. Nothing is allocated.
-fn copied_bytes(bytes: &ArrayVec<u8, MAX_BYTES>) -> ArrayVec<u8, MAX_BYTES>
-    ensures { result ≡ bytes.now }
-{
-    let mut copy = ArrayVec::new();
-    copy.try_extend_from_slice(bytes.as_slice()).unwrap();
-    copy
+    })
 }
 
 /// Returns the bytes of a reply with bytes or with a byte. Any other reply has none.

@@ -1,12 +1,11 @@
 //! Judging entries one by one.
-ghost use Rattle.std.specs.Prelude.{◌≡◌, ◌≢◌, ◌^◌, ◌+◌, ◌-◌, ◌≤◌, ◌<◌, ◌↔◌, ◌∷◌, ◌++◌, ℕ, List, [], false, true, IfErr, IfOk, IfSome, IsNone, IsTrue, length};
+ghost use Rattle.std.specs.Prelude.{◌≡◌, ◌≢◌, ◌^◌, ◌+◌, ◌-◌, ◌≤◌, ◌<◌, ◌↔◌, ◌∷◌, ◌++◌, ℕ, List, [], Err, false, true, IfErr, IfOk, IfSome, IsNone, IsTrue, length};
 ghost use Rattle.model_memory.specs.Memory.{Memory};
 ghost use Rattle.model_memory.specs.Plain.{Entry, Follows, plain};
-ghost use Rattle.model_words.specs.Commands.{IsInRange};
 ghost use Rattle.model_words.specs.declared.commands.Command.{Command};
 ghost use Rattle.model_words.specs.declared.commands.Reply.{Reply};
 ghost use Rattle.model_history.specs.Recorded.{IsOwnRefusal, Recorded, any_allocator};
-ghost use Rattle.text_fields.specs.Commands.{plain_command};
+ghost use Rattle.text_fields.specs.Commands.{IsRecordable, plain_command};
 ghost use Rattle.text_words.specs.RecordedWords.{IsNarrow, IsSized, plain_entry, plain_reply};
 ghost use Rattle.history_in_order.specs.Differences.{bytes_of};
 ghost use Rattle.history_in_order.specs.Judged.{IsAnswered, IsTaken, IsTold, IsWrong, is_new};
@@ -19,9 +18,8 @@ use crate::faults::CommandError;
 use crate::memory::Tracked;
 use crate::reasons::{Difference, DifferentByte, Reason};
 use crate::stored::Stored;
-use arrayvec::ArrayVec;
 use history_reading::{RecordedEntry, RecordedReply, SpeltCommand};
-use model_words::{MAX_BYTES, Refusal};
+use model_words::Refusal;
 use std::alloc::AllocError;
 
 impl Tracked {
@@ -30,7 +28,7 @@ impl Tracked {
     ///
     /// After a rejected entry or an error, the memory may differ from the memory after the earlier entries.
     pub fn judge(&mut self, line: u32, entry: &RecordedEntry) -> Result<Option<Reason>, AllocError>
-        requires range { IsInRange (plain_command entry.now.command) }
+        requires range { IsRecordable (plain_command entry.now.command) }
         requires sized { IsSized (plain_command entry.now.command) }
         requires narrow { IsNarrow entry.now.reply }
         requires few { self.old.made < 2 ^ 32 - 1 }
@@ -64,7 +62,7 @@ impl Tracked {
         command: &SpeltCommand,
         reply: &RecordedReply,
     ) -> Result<Option<Reason>, AllocError>
-        requires range { IsInRange (plain_command command.now) }
+        requires range { IsRecordable (plain_command command.now) }
         requires other { is_new (plain_command command.now) ≡ false }
         ensures taken { IfOk result
             (λ reason. IsNone reason → IsTaken self.old self.new (plain_command command.now) (plain_reply reply.now)) }
@@ -76,17 +74,33 @@ impl Tracked {
         ensures lined { IfOk result (λ reason. IsNone reason → MakesNone self.old self.new) }
         ensures maker { IfOk result (λ reason. IfSome reason (λ why. (entries : List Entry) → HasLine entries why)) }
     {
+        if self.is_loaded(command, reply) {
+            return Ok(None);
+        }
         let wanted = self.answer(line, command)?;
         if is_same(reply, &wanted) {
             return Ok(None);
         }
         let byte = self.different_byte(command, reply, &wanted);
-        Ok(Some(difference(copied(reply), wanted, byte)))
+        Ok(Some(difference(copied(reply)?, wanted, byte)))
+    }
+
+    /// Whether the command is a `get` that returns this answer. Nothing is allocated, so that the bytes of an answer
+    /// that is right aren't copied.
+    fn is_loaded(&self, command: &SpeltCommand, reply: &RecordedReply) -> bool
+        ensures { IsTrue result → IsAnswered self.now self.now (plain_command command.now) (plain_reply reply.now) }
+    {
+        match (command, reply) {
+            (SpeltCommand::Get(cell, off, len), RecordedReply::Bytes(bytes)) => {
+                self.has_bytes(*cell, *off, *len, bytes)
+            }
+            _ => false,
+        }
     }
 
     /// Runs a command other than `new`, and returns the answer of the reference memory.
     fn answer(&mut self, line: u32, command: &SpeltCommand) -> Result<RecordedReply, AllocError>
-        requires range { IsInRange (plain_command command.now) }
+        requires range { IsRecordable (plain_command command.now) }
         requires other { is_new (plain_command command.now) ≡ false }
         ensures answered { IfOk result
             (λ reply. IsAnswered self.old self.new (plain_command command.now) (plain_reply reply)) }
@@ -99,10 +113,10 @@ impl Tracked {
         match command {
             SpeltCommand::New(_, _, _) => Ok(RecordedReply::Done),
             SpeltCommand::Put(cell, off, bytes) => { done(self.put(line, *cell, *off, bytes)) }
-            SpeltCommand::Get(cell, off, len) => Ok(
-                self.get(*cell, *off, *len)
-                    .map_or_else(RecordedReply::Refused, RecordedReply::Bytes),
-            ),
+            SpeltCommand::Get(cell, off, len) => match self.get(*cell, *off, *len) {
+                Ok(bytes) => Ok(RecordedReply::Bytes(bytes)),
+                Err(error) => refused(error),
+            },
             SpeltCommand::Free(cell) => done(self.free(*cell)),
             SpeltCommand::Alias(to, from) => done(self.alias(*to, *from)),
             SpeltCommand::Addr(cell) => Ok(
@@ -196,7 +210,7 @@ impl Tracked {
                 self.judge_made(line, cell, len, *serial, *address)
             }
             RecordedReply::Refused(refusal) if is_own_refusal(len, *refusal) => Ok(None),
-            _ => Ok(Some(no_object(len, copied(reply)))),
+            _ => Ok(Some(no_object(len, copied(reply)?))),
         }
     }
 
@@ -277,7 +291,16 @@ fn done(outcome: Result<(), CommandError>) -> Result<RecordedReply, AllocError>
 {
     match outcome {
         Ok(()) => Ok(RecordedReply::Done),
-        Err(CommandError::Refused(refusal)) => Ok(RecordedReply::Refused(refusal)),
-        Err(CommandError::Memory) => Err(AllocError),
+        Err(error) => refused(error),
+    }
+}
+
+/// Returns the answer to a command that failed: its refusal.
+fn refused(error: CommandError) -> Result<RecordedReply, AllocError>
+    ensures { IsTold (Err error) result }
+{
+    match error {
+        CommandError::Refused(refusal) => Ok(RecordedReply::Refused(refusal)),
+        CommandError::Memory => Err(AllocError),
     }
 }

@@ -27,9 +27,8 @@ pub fn store(
     bytes: &[u8],
     line: u32,
 ) -> Result<(), AllocError>
-    requires fits { (o : LiveObject) → get nat_cmp objects.old number ≡ Some o
+    requires { (o : LiveObject) → get nat_cmp objects.old number ≡ Some o
         → off + length bytes.now ≤ length o.object.bytes }
-    requires few { length bytes.now ≤ 32 }
     ensures { OnOk result ((o : LiveObject) → get nat_cmp objects.old number ≡ Some o
         → IsSetAt (get nat_cmp objects.old) (get nat_cmp objects.new) number
         (Some (with_bytes o (overwritten o.object.bytes off bytes.now)))) }

@@ -1,5 +1,5 @@
 //! `Tracked`: the reference memory of a history, kept in trees.
-ghost use Rattle.std.specs.Prelude.{◌≡◌, true, ◌^◌, ◌+◌, ◌-◌, ◌≤◌, ◌<◌, Ok, Err, Some, None, IfOk, IfErr, OnOk, OnErr, IfSome, IsNone, [], ◌∷◌, ◌++◌, length};
+ghost use Rattle.std.specs.Prelude.{◌≡◌, true, ◌^◌, ◌+◌, ◌-◌, ◌≤◌, ◌<◌, Ok, Err, Some, None, IfOk, IfErr, OnOk, OnErr, IfSome, IsNone, IsTrue, [], ◌∷◌, ◌++◌, length, slice_range};
 ghost use Rattle.std.specs.Ordering.{nat_cmp};
 ghost use Rattle.std.specs.BTreeMap.{get};
 ghost use Rattle.model_words.specs.declared.commands.Command.{Command};
@@ -20,9 +20,9 @@ use crate::maps::{nearest, set, set_start, store};
 use crate::reasons::{AddressRange, Overlap};
 use crate::sparse::SparseBytes;
 use crate::stored::Stored;
-use arrayvec::ArrayVec;
+use history_bytes::RecordedBytes;
 use history_number_set::NumberSet;
-use model_words::{MAX_BYTES, Refusal};
+use model_words::Refusal;
 use std::alloc::{AllocError, Global};
 use std::collections::BTreeMap;
 
@@ -136,21 +136,34 @@ impl Tracked {
     }
 
     /// Loads `len` bytes from offset `off` of the object that `cell` names. The error is the first that applies, in
-    /// this order: EMPTY, FREED, OUTSIDE.
-    pub fn get(&self, cell: u32, off: u64, len: u32) -> Result<ArrayVec<u8, MAX_BYTES>, Refusal>
-        requires { len ≤ 32 }
+    /// this order: EMPTY, FREED, OUTSIDE, Memory.
+    pub fn get(&self, cell: u32, off: u64, len: u32) -> Result<RecordedBytes, CommandError>
+        requires { len ≤ 4096 }
         ensures bytes { IfOk result
             (λ bytes. (r : Recorded) → Stands self.now r
             → plain r.memory 0 (Command.Get cell off len) ≡ Ok (Reply.Bytes bytes, r.memory)) }
-        ensures refusal { IfErr result
-            (λ refusal. (r : Recorded) → Stands self.now r
-            → plain r.memory 0 (Command.Get cell off len) ≡ Err refusal) }
+        ensures refused { IfErr result (IsRefused self.now self.now (Command.Get cell off len)) }
+        ensures memory { result ≡ Err CommandError.Memory → IsPossible self.now (Command.Get cell off len) }
     {
         let (_, object) = self.named(cell)?;
         if object.ends_outside(off, len) {
-            return Err(Refusal::Outside);
+            return Err(CommandError::Refused(Refusal::Outside));
         }
-        Ok(object.bytes.load(off, len))
+        Ok(object.bytes.load(self.alloc, off, len)?)
+    }
+
+    /// Whether `get` returns these bytes. Nothing is allocated. The contract states only what `true` means.
+    pub fn has_bytes(&self, cell: u32, off: u64, len: u32, bytes: &RecordedBytes) -> bool
+        ensures { IsTrue result
+            → (r : Recorded) → Stands self.now r
+            → plain r.memory 0 (Command.Get cell off len) ≡ Ok (Reply.Bytes bytes.now, r.memory) }
+    {
+        let Ok((_, object)) = self.named(cell) else {
+            return false;
+        };
+        bytes.len() == len as usize
+            && !object.ends_outside(off, len)
+            && object.bytes.has(off, bytes.as_slice())
     }
 
     /// The address of the object that `cell` names. The error is the first that applies, in this order: EMPTY, FREED.
@@ -184,7 +197,7 @@ impl Tracked {
         line: u32,
         cell: u32,
         off: u64,
-        bytes: &ArrayVec<u8, MAX_BYTES>,
+        bytes: &RecordedBytes,
     ) -> Result<(), CommandError>
         ensures done { OnOk result (IsDone self.old self.new (Command.Put cell off bytes.now)) }
         ensures refused { IfErr result (IsRefused self.old self.new (Command.Put cell off bytes.now)) }
@@ -261,7 +274,7 @@ impl Tracked {
         from_off: u64,
         len: u32,
     ) -> Result<(), CommandError>
-        requires { len ≤ 32 }
+        requires { len ≤ 4096 }
         ensures done { OnOk result (IsDone self.old self.new (Command.Copy to to_off from from_off len)) }
         ensures refused { IfErr result (IsRefused self.old self.new (Command.Copy to to_off from from_off len)) }
         ensures memory { result ≡ Err CommandError.Memory
@@ -269,23 +282,19 @@ impl Tracked {
         ensures made { self.new.made ≡ self.old.made }
         ensures lined { OnOk result (MakesNone self.old self.new) }
     {
-        let (number, bytes) = self.copied((to, to_off), (from, from_off), len)?;
+        let (number, source) = self.copied((to, to_off), (from, from_off), len)?;
+        let bytes = source.bytes.load(self.alloc, from_off, len)?;
         store(&mut self.objects, number, to_off, bytes.as_slice(), line)?;
         Ok(())
     }
 
-    /// Returns the number of the object that a copy changes, and the copied bytes. `to` and `from` are each a cell and
-    /// an offset. The error is the first that applies, in this order: EMPTY, FREED, OUTSIDE.
-    fn copied(
-        &self,
-        to: (u32, u64),
-        from: (u32, u64),
-        len: u32,
-    ) -> Result<(u32, ArrayVec<u8, MAX_BYTES>), Refusal>
-        requires { len ≤ 32 }
+    /// Returns the number of the object that a copy changes, and the object that has the copied bytes. `to` and `from`
+    /// are each a cell and an offset. The error is the first that applies, in this order: EMPTY, FREED, OUTSIDE.
+    fn copied(&self, to: (u32, u64), from: (u32, u64), len: u32) -> Result<(u32, &Stored), Refusal>
         ensures copied { IfOk result
-            (λ found. IsCopied self.now (Command.Copy to.0 to.1 from.0 from.1 len) found.0 to.1 found.1.items) }
-        ensures few { IfOk result (λ found. length found.1.items ≤ 32) }
+            (λ found. IsCopied self.now (Command.Copy to.0 to.1 from.0 from.1 len) found.0 to.1
+            (slice_range found.1.now.object.bytes from.1 (from.1 + len))) }
+        ensures fits { IfOk result (λ found. from.1 + len ≤ length found.1.now.object.bytes) }
         ensures refusal { IfErr result
             (λ refusal. (r : Recorded) → Stands self.now r
             → plain r.memory 0 (Command.Copy to.0 to.1 from.0 from.1 len) ≡ Err refusal) }
@@ -297,7 +306,7 @@ impl Tracked {
         if into.ends_outside(to.1, len) || out_of.ends_outside(from.1, len) {
             return Err(Refusal::Outside);
         }
-        Ok((number, out_of.bytes.load(from.1, len)))
+        Ok((number, out_of))
     }
 
     /// Returns the live object that overlaps the range of `len` bytes from `address`. If there are several, it is the

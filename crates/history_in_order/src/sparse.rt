@@ -1,11 +1,10 @@
 //! `SparseBytes`: the bytes of one object.
-ghost use Rattle.std.specs.Prelude.{◌≡◌, ◌+◌, ◌*◌, ◌^◌, ◌≤◌, ◌<◌, OnOk, OnErr, length, replicate, slice_range};
+ghost use Rattle.std.specs.Prelude.{◌≡◌, ◌+◌, ◌*◌, ◌^◌, ◌≤◌, ◌<◌, ◌↔◌, IfOk, IsOk, IsTrue, OnOk, OnErr, length, replicate, slice_index, slice_range};
 ghost use Rattle.model_memory.specs.Memory.{overwritten};
 ghost use Rattle.history_in_order.specs.Chunks.{IsPartlyStored};
 
 use crate::chunks::{CHUNK_BYTES, Chunk, chunk_bytes, store_in, stored_at};
-use arrayvec::ArrayVec;
-use model_words::MAX_BYTES;
+use history_bytes::RecordedBytes;
 use std::alloc::{AllocError, Global};
 use std::collections::BTreeMap;
 use std::marker::Model;
@@ -54,30 +53,50 @@ impl SparseBytes {
         self.len
     }
 
-    /// Returns the `len` bytes that begin at offset `start`.
-    pub fn load(&self, start: u64, len: u32) -> ArrayVec<u8, MAX_BYTES>
+    /// Returns the `len` bytes that begin at offset `start`. It allocates nothing for up to 32 bytes.
+    pub fn load(&self, alloc: Global, start: u64, len: u32) -> Result<RecordedBytes, AllocError>
         requires fits { start + len ≤ length self.now }
-        requires few { len ≤ 32 }
-        ensures { result.items ≡ slice_range self.now start (start + len) }
+        requires few { len ≤ 4096 }
+        ensures bytes { IfOk result (λ bytes. bytes.items ≡ slice_range self.now start (start + len)) }
+        ensures inline { len ≤ 32 → IsOk result }
     {
-        let mut bytes = ArrayVec::from([0; MAX_BYTES]);
-        bytes.truncate(len as usize);
-        self.read(start, &mut bytes);
-        bytes
+        let (mut number, mut place) = chunk_and_place(start);
+        let mut bytes = RecordedBytes::with_capacity(alloc, len as usize)?;
+        while bytes.len() < len as usize {
+            let run = first_run(place, len as usize - bytes.len());
+            bytes.extend(self.run(number, place, run))?;
+            number += 1;
+            place = 0;
+        }
+        Ok(bytes)
     }
 
-    /// Fills `out` with the bytes that begin at offset `start`.
-    fn read(&self, start: u64, out: &mut [u8])
-        requires fits { start + length out.old ≤ length self.now }
-        requires few { length out.old ≤ 32 }
-        ensures { out.new ≡ slice_range self.now start (start + length out.old) }
+    /// Whether these bytes begin at offset `start`. Nothing is allocated.
+    pub fn has(&self, start: u64, bytes: &[u8]) -> bool
+        requires { start + length bytes.now ≤ length self.now }
+        ensures { IsTrue result ↔ (slice_range self.now start (start + length bytes.now) ≡ bytes.now) }
     {
-        let (number, place) = chunk_and_place(start);
-        let (first, rest) = out.split_at_mut(first_run(place, out.len()));
-        first.copy_from_slice(self.run(number, place, first.len()));
-        if !rest.is_empty() {
-            rest.copy_from_slice(self.run(number + 1, 0, rest.len()));
+        let (mut number, mut place) = chunk_and_place(start);
+        let mut done = 0;
+        while done < bytes.len() {
+            let run = first_run(place, bytes.len() - done);
+            if !are_equal(self.run(number, place, run), &bytes[done..done + run]) {
+                return false;
+            }
+            done += run;
+            number += 1;
+            place = 0;
         }
+        true
+    }
+
+    /// Returns the byte at an offset.
+    pub fn byte(&self, off: u64) -> u8
+        requires { off < length self.now }
+        ensures { result ≡ slice_index self.now off }
+    {
+        let (number, place) = chunk_and_place(off);
+        self.run(number, place, 1)[0]
     }
 
     /// Returns the line of the last entry that stored the byte at an offset, or `None` if no entry did. No clause
@@ -93,22 +112,21 @@ impl SparseBytes {
     /// if the range touches a chunk of 64 bytes in which no byte was stored before. No clause states this condition,
     /// because the list of bytes doesn't show which chunks take memory.
     pub fn store(&mut self, start: u64, bytes: &[u8], line: u32) -> Result<(), AllocError>
-        requires fits { start + length bytes.now ≤ length self.old }
-        requires few { length bytes.now ≤ 32 }
+        requires { start + length bytes.now ≤ length self.old }
         ensures stored { OnOk result (self.new ≡ overwritten self.old start bytes.now) }
         ensures partly { OnErr result (IsPartlyStored self.old self.new start bytes.now) }
         ensures len { length self.new ≡ length self.old }
     {
-        if bytes.is_empty() {
-            return Ok(());
+        let (mut number, mut place) = chunk_and_place(start);
+        let mut done = 0;
+        while done < bytes.len() {
+            let run = first_run(place, bytes.len() - done);
+            self.store_run(number, place, &bytes[done..done + run], line)?;
+            done += run;
+            number += 1;
+            place = 0;
         }
-        let (number, place) = chunk_and_place(start);
-        let (first, rest) = bytes.split_at(first_run(place, bytes.len()));
-        self.store_run(number, place, first, line)?;
-        if rest.is_empty() {
-            return Ok(());
-        }
-        self.store_run(number + 1, 0, rest, line)
+        Ok(())
     }
 
     /// Returns the `len` bytes of one chunk that begin at `place`.
@@ -150,10 +168,18 @@ fn chunk_and_place(offset: u64) -> (u64, usize)
 
 /// Returns how many of the `len` bytes that begin at `place` are in that place's chunk.
 fn first_run(place: usize, len: usize) -> usize
-    requires { place ≤ 64 }
+    requires { place < 64 }
     ensures within { result ≤ len }
+    ensures some { 1 ≤ len → 1 ≤ result }
     ensures one_chunk { place + result ≤ 64 }
     ensures rest { result < len → place + result ≡ 64 }
 {
     len.min(CHUNK_BYTES - place)
+}
+
+/// Whether two runs of bytes are the same.
+fn are_equal(one: &[u8], other: &[u8]) -> bool
+    ensures { IsTrue result ↔ (one.now ≡ other.now) }
+{
+    one == other
 }

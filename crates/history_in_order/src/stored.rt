@@ -82,6 +82,6 @@ impl Stored {
         requires { off < length self.now.object.bytes }
         ensures { result ≡ slice_index self.now.object.bytes off }
     {
-        self.bytes.load(off, 1)[0]
+        self.bytes.byte(off)
     }
 }

@@ -6,7 +6,8 @@ use Rattle.history_overlaps.specs.declared.flaws.Flaw.{Flaw}
 use Rattle.history_overlaps.specs.declared.flaws.Flaw.TheVariants.{Overlaps}
 use Rattle.history_overlaps.specs.declared.verdicts.CallVerdict.{CallVerdict}
 use Rattle.history_overlaps.specs.declared.verdicts.CallVerdict.TheVariants.{Undecided}
-use Rattle.history_judge.specs.FlawTexts.{flaw_text}
+use Rattle.history_overlaps.specs.declared.objects.NewObject.{NewObject}
+use Rattle.history_judge.specs.FlawTexts.{flaw_text, object_text}
 use Rattle.history_judge.specs.JudgementTexts.{call_text, undecided_text}
 
 four : (old a b c d : List ℕ) → (((old ++ a) ++ b) ++ c) ++ d ≡ old ++ (a ++ (b ++ (c ++ d)))
@@ -45,3 +46,23 @@ undecided_told old one two three new most line fault verdict is first second thi
 pub told_if_ok : {T E : Type 0} (r : Result T E) (new added old : List ℕ) → new ≡ (if is_ok r then added else old) → OnOk r (new ≡ added)
 told_if_ok (Ok v) new added old told = told
 told_if_ok (Err e) new added old told = tt
+
+object_words : (object : NewObject) → codes " of object " ++ (decimal object.serial ++ (codes " in cell " ++ (decimal object.cell
+    ++ (codes ", made at line " ++ decimal (object.number + 2))))) ≡ object_text object
+object_words object =
+    let a = codes " of object" in let b = 32 ∷ decimal object.serial in let c = codes " in cell" in let d = 32 ∷ decimal object.cell in
+    let e = codes ", made at line" in let f = 32 ∷ decimal (object.number + 2) in
+    sym (append_assoc ((((a ++ b) ++ c) ++ d)) e f ∙ append_assoc ((a ++ b) ++ c) d (e ++ f) ∙ append_assoc (a ++ b) c (d ++ (e ++ f))
+    ∙ append_assoc a b (c ++ (d ++ (e ++ f))))
+
+-- the object of an access, written piece by piece
+pub object_told : (old one two three four five new : List ℕ) (object : NewObject) → one ≡ old ++ codes " of object " → two ≡ one ++ decimal object.serial
+    → three ≡ two ++ codes " in cell " → four ≡ three ++ decimal object.cell → five ≡ four ++ codes ", made at line "
+    → new ≡ five ++ decimal (object.number + 2) → new ≡ old ++ object_text object
+object_told old one two three four five new object first serial second cell third line =
+    let a = codes " of object " in let b = decimal object.serial in let c = codes " in cell " in let d = decimal object.cell in
+    let e = codes ", made at line " in let f = decimal (object.number + 2) in
+    line ∙ ap (λ (s : List ℕ). s ++ f) (third ∙ ap (λ (s : List ℕ). s ++ e) (cell ∙ ap (λ (s : List ℕ). s ++ d) (second ∙ ap (λ (s : List ℕ). s ++ c)
+    (serial ∙ ap (λ (s : List ℕ). s ++ b) first))))
+    ∙ append_assoc ((((old ++ a) ++ b) ++ c) ++ d) e f ∙ append_assoc (((old ++ a) ++ b) ++ c) d (e ++ f) ∙ append_assoc ((old ++ a) ++ b) c (d ++ (e ++ f))
+    ∙ append_assoc (old ++ a) b (c ++ (d ++ (e ++ f))) ∙ append_assoc old a (b ++ (c ++ (d ++ (e ++ f)))) ∙ ap (λ (t : List ℕ). old ++ t) (object_words object)

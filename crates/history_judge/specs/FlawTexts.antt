@@ -11,6 +11,7 @@ use Rattle.history_overlaps.specs.declared.flaws.Flaw.{Flaw}
 use Rattle.history_overlaps.specs.declared.flaws.Flaw.TheVariants.{SerialAgain, NoByte, StrangeRefusal, Overlaps, NoOrder}
 use Rattle.history_overlaps.specs.declared.misuses.Misuse.{Misuse}
 use Rattle.history_overlaps.specs.declared.misuses.Misuse.TheVariants.{CellAgain, NotAfterNew, NotBeforeFree}
+use Rattle.history_overlaps.specs.declared.objects.NewObject.{NewObject}
 use Rattle.history_overlaps.specs.declared.possible.Loads.{Loads}
 use Rattle.history_overlaps.specs.declared.possible.Possible.{Possible}
 use Rattle.history_overlaps.specs.declared.possible.Possible.TheVariants.{Only, Loads as OneOf}
@@ -57,10 +58,16 @@ abbrev pub possible_text : Possible → List ℕ
 possible_text (Only answer) = codes "; possible: " ++ recorded_text answer
 possible_text (OneOf loads) = codes "; possible if it took effect last: " ++ loads_text loads
 
+-- the text of the object of an access
+abbrev pub object_text : NewObject → List ℕ
+object_text object =
+    codes " of object" ++ number_field object.serial ++ codes " in cell" ++ number_field object.cell ++ codes ", made at line" ++ number_field (object.number + 2)
+
 -- the text of a flaw: why no order explains a history
 abbrev pub flaw_text : Flaw → List ℕ
 flaw_text SerialAgain = codes "serial again"
 flaw_text (NoByte answer) = unfair_text answer ++ recorded_text (Refused Zero)
 flaw_text (StrangeRefusal refusal) = unfair_text (Refused refusal) ++ codes "object"
 flaw_text (Overlaps serial number) = codes "overlaps object" ++ number_field serial ++ codes ", made at line" ++ number_field (number + 2)
-flaw_text (NoOrder unexplained) = answer_text unexplained.answer ++ possible_text unexplained.possible
+flaw_text (NoOrder unexplained) =
+    answer_text unexplained.answer ++ (object_text unexplained.object ++ possible_text unexplained.possible)

@@ -1,12 +1,12 @@
 //! The text of the reason why calls are no history, or why no order of effects explains them.
 ghost use Rattle.std.specs.Prelude.{◌≡◌, ◌++◌, OnOk};
 ghost use Rattle.std.specs.List.{flat_map};
-ghost use Rattle.history_judge.specs.FlawTexts.{answer_text, flaw_text, later_text, least_text, load_text, loads_text, misuse_text, possible_text, unfair_text};
+ghost use Rattle.history_judge.specs.FlawTexts.{answer_text, flaw_text, later_text, least_text, load_text, loads_text, misuse_text, object_text, possible_text, unfair_text};
 
-use arrayvec::ArrayVec;
-use history_overlaps::{Flaw, Loads, Misuse, Possible, Unexplained};
+use history_bytes::RecordedBytes;
+use history_overlaps::{Flaw, Loads, Misuse, NewObject, Possible, Unexplained};
 use history_reading::RecordedReply;
-use model_words::{MAX_BYTES, Refusal};
+use model_words::Refusal;
 use std::alloc::AllocError;
 use text_words::{add_bytes, add_decimal, add_recorded};
 
@@ -45,14 +45,28 @@ pub(crate) fn add_flaw(text: &mut Vec<u8>, flaw: &Flaw) -> Result<(), AllocError
     }
 }
 
-/// Appends an answer that no order of effects explains, and the answers that were possible.
+/// Appends an answer that no order of effects explains, the object, and the answers that were possible.
 fn add_unexplained(text: &mut Vec<u8>, unexplained: &Unexplained) -> Result<(), AllocError>
     ensures { OnOk result
         (text.new.items ≡ text.old.items
-        ++ (answer_text unexplained.now.answer ++ possible_text unexplained.now.possible)) }
+        ++ (answer_text unexplained.now.answer
+        ++ (object_text unexplained.now.object ++ possible_text unexplained.now.possible))) }
 {
     add_answer(text, &unexplained.answer)?;
+    add_object(text, unexplained.object)?;
     add_possible(text, &unexplained.possible)
+}
+
+/// Appends the object of an access: its serial, its cell, and the line of its `new`.
+fn add_object(text: &mut Vec<u8>, object: NewObject) -> Result<(), AllocError>
+    ensures { OnOk result (text.new.items ≡ text.old.items ++ object_text object) }
+{
+    text.extend_from_slice(b" of object ")?;
+    add_decimal(text, u64::from(object.serial))?;
+    text.extend_from_slice(b" in cell ")?;
+    add_decimal(text, u64::from(object.cell))?;
+    text.extend_from_slice(b", made at line ")?;
+    add_decimal(text, u64::from(object.number) + 2)
 }
 
 /// Appends the answers that were possible in place of one that no order of effects explains.
@@ -99,7 +113,7 @@ fn add_loads(text: &mut Vec<u8>, loads: &Loads) -> Result<(), AllocError>
 }
 
 /// Appends each item of `loads`, the bytes that a load could return. Items are separated by bars.
-fn add_least(text: &mut Vec<u8>, loads: &[ArrayVec<u8, MAX_BYTES>]) -> Result<(), AllocError>
+fn add_least(text: &mut Vec<u8>, loads: &[RecordedBytes]) -> Result<(), AllocError>
     ensures { OnOk result (text.new.items ≡ text.old.items ++ least_text loads.now) }
 {
     let [first, later @ ..] = loads else {
@@ -110,7 +124,7 @@ fn add_least(text: &mut Vec<u8>, loads: &[ArrayVec<u8, MAX_BYTES>]) -> Result<()
 }
 
 /// Appends each item of `later`, the bytes that a load could return, with a bar before each.
-fn add_later(text: &mut Vec<u8>, later: &[ArrayVec<u8, MAX_BYTES>]) -> Result<(), AllocError>
+fn add_later(text: &mut Vec<u8>, later: &[RecordedBytes]) -> Result<(), AllocError>
     ensures { OnOk result (text.new.items ≡ text.old.items ++ flat_map later_text later.now) }
 {
     for load in later {
@@ -120,7 +134,7 @@ fn add_later(text: &mut Vec<u8>, later: &[ArrayVec<u8, MAX_BYTES>]) -> Result<()
 }
 
 /// Appends a bar, and the bytes that a load could return.
-fn add_later_load(text: &mut Vec<u8>, load: &ArrayVec<u8, MAX_BYTES>) -> Result<(), AllocError>
+fn add_later_load(text: &mut Vec<u8>, load: &RecordedBytes) -> Result<(), AllocError>
     ensures { OnOk result (text.new.items ≡ text.old.items ++ later_text load.now) }
 {
     text.extend_from_slice(b" | ")?;
@@ -128,7 +142,7 @@ fn add_later_load(text: &mut Vec<u8>, load: &ArrayVec<u8, MAX_BYTES>) -> Result<
 }
 
 /// Appends the bytes that a load could return.
-fn add_load(text: &mut Vec<u8>, load: &ArrayVec<u8, MAX_BYTES>) -> Result<(), AllocError>
+fn add_load(text: &mut Vec<u8>, load: &RecordedBytes) -> Result<(), AllocError>
     ensures { OnOk result (text.new.items ≡ text.old.items ++ load_text load.now) }
 {
     text.extend_from_slice(b"bytes ")?;

@@ -36,6 +36,7 @@ pub mod SomeUnexplained
 pub mod OrderedFirst
 pub mod OrderedEnd
 pub mod Accessed
+mod ByRuns
 mod Compared
 pub mod Kept
 pub mod Offsets

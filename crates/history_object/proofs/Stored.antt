@@ -58,10 +58,9 @@ stored-append chunks k (x ∷ first) rest =
     ∙ ap (λ (i : ℕ). stored (stored (with_byte chunks k x) (k + 1) first) i rest) (omega arith)
 
 -- a store in two runs
-pub stored_in_two : (chunks : List Chunk) (start off m k : ℕ) (new : List ℕ) → start ≡ off → k ≡ off + length (take m new)
-    → stored (stored chunks start (take m new)) k (drop m new) ≡ stored chunks off new
-stored_in_two chunks start off m k new is rest =
-    ap (λ (i : ℕ). stored (stored chunks i (take m new)) k (drop m new)) is
-    ∙ ap (λ (i : ℕ). stored (stored chunks off (take m new)) i (drop m new)) rest
+pub stored_in_two : (chunks : List Chunk) (off m k : ℕ) (new : List ℕ) → k ≡ off + length (take m new)
+    → stored (stored chunks off (take m new)) k (drop m new) ≡ stored chunks off new
+stored_in_two chunks off m k new rest =
+    ap (λ (i : ℕ). stored (stored chunks off (take m new)) i (drop m new)) rest
     ∙ sym (stored-append chunks off (take m new) (drop m new))
     ∙ ap (λ (xs : List ℕ). stored chunks off xs) (take-append-drop m new)

@@ -1,5 +1,5 @@
 //! `ObjectBytes`, the bytes of one object.
-ghost use Rattle.std.specs.Prelude.{◌≡◌, ◌+◌, ◌*◌, ◌^◌, ◌≤◌, ◌<◌, ◌&&◌, IfOk, OnOk, length, nat_eq, not, replicate, slice_range};
+ghost use Rattle.std.specs.Prelude.{◌≡◌, ◌+◌, ◌*◌, ◌^◌, ◌≤◌, ◌<◌, ◌&&◌, IfOk, IsOk, OnOk, length, nat_eq, not, replicate, slice_range};
 ghost use Rattle.std.specs.Str.{bytes_eq};
 ghost use Rattle.model_intervals.specs.Objects.{ends_past};
 ghost use Rattle.history_object.specs.Chunks.{stored};
@@ -7,8 +7,7 @@ ghost use Rattle.history_object.specs.ObjectBytes.{bytes_of, first_state};
 
 use crate::chunk::{CHUNK_BYTES, Chunk};
 use crate::chunks::{chunk, store_run};
-use arrayvec::ArrayVec;
-use model_words::MAX_BYTES;
+use history_bytes::RecordedBytes;
 use std::alloc::{AllocError, Global};
 use std::marker::Model;
 
@@ -53,30 +52,24 @@ impl ObjectBytes {
         self.len
     }
 
-    /// Returns the `len` bytes that begin at offset `off`.
-    pub fn load(&self, off: u64, len: u32) -> ArrayVec<u8, MAX_BYTES>
+    /// Returns the `len` bytes that begin at offset `off`. It allocates nothing for up to 32 bytes.
+    pub fn load(&self, alloc: Global, off: u64, len: u32) -> Result<RecordedBytes, AllocError>
         requires fits { off + len ≤ length (bytes_of self.now) }
-        requires few { len ≤ 32 }
-        ensures { result.items ≡ slice_range (bytes_of self.now) off (off + len) }
+        requires few { len ≤ 4096 }
+        ensures bytes { IfOk result (λ bytes. bytes.items ≡ slice_range (bytes_of self.now) off (off + len)) }
+        ensures inline { len ≤ 32 → IsOk result }
     {
-        let mut bytes = ArrayVec::from([0; MAX_BYTES]);
-        bytes.truncate(len as usize);
-        self.read(off, &mut bytes);
-        bytes
-    }
-
-    /// Fills `out` with the bytes that begin at offset `off`.
-    fn read(&self, off: u64, out: &mut [u8])
-        requires fits { off + length out.old ≤ length (bytes_of self.now) }
-        requires few { length out.old ≤ 32 }
-        ensures { out.new ≡ slice_range (bytes_of self.now) off (off + length out.old) }
-    {
-        let (number, place) = chunk_and_place(off);
-        let (first, rest) = out.split_at_mut(first_run(place, out.len()));
-        first.copy_from_slice(self.run(number, place, first.len()));
-        if !rest.is_empty() {
-            rest.copy_from_slice(self.run(number + 1, 0, rest.len()));
+        let mut bytes = RecordedBytes::with_capacity(alloc, len as usize)?;
+        let (mut number, mut place) = chunk_and_place(off);
+        let mut left = len as usize;
+        while left > 0 {
+            let run = self.run(number, place, first_run(place, left));
+            bytes.extend(run)?;
+            left -= run.len();
+            number += 1;
+            place = 0;
         }
+        Ok(bytes)
     }
 
     /// Returns the `len` bytes that begin at `place` in the chunk with this number.
@@ -97,7 +90,6 @@ impl ObjectBytes {
 
     /// Whether a load of `len` bytes from offset `off` stays within the object and returns exactly `answered`.
     pub(crate) fn answers(&self, off: u64, len: u32, answered: &[u8]) -> bool
-        requires { length answered.now ≤ 32 }
         ensures { result ≡ (nat_eq len (length answered.now) &&
             (not (ends_past (bytes_of self.now) off (length answered.now))
             && bytes_eq answered.now (slice_range (bytes_of self.now) off (off + length answered.now)))) }
@@ -107,14 +99,34 @@ impl ObjectBytes {
 
     /// Whether the object has exactly these bytes at offset `off`. `false` if they would end past the object's bytes.
     fn has(&self, off: u64, bytes: &[u8]) -> bool
-        requires { length bytes.now ≤ 32 }
         ensures { result ≡ (not (ends_past (bytes_of self.now) off (length bytes.now))
             && bytes_eq bytes.now (slice_range (bytes_of self.now) off (off + length bytes.now))) }
     {
         if self.ends_past(off, bytes.len()) {
             return false;
         }
-        bytes == self.load(off, bytes.len() as u32).as_slice()
+        let (mut number, mut place) = chunk_and_place(off);
+        let mut rest = bytes;
+        while !rest.is_empty() {
+            let (run, more) = rest.split_at(first_run(place, rest.len()));
+            if !self.has_run(number, place, run) {
+                return false;
+            }
+            rest = more;
+            number += 1;
+            place = 0;
+        }
+        true
+    }
+
+    /// Whether the chunk with this number has exactly these bytes at `place`.
+    fn has_run(&self, number: u64, place: usize, bytes: &[u8]) -> bool
+        requires one_chunk { place + length bytes.now ≤ 64 }
+        requires fits { number * 64 + place + length bytes.now ≤ length (bytes_of self.now) }
+        ensures { result ≡ bytes_eq bytes.now
+            (slice_range (bytes_of self.now) (number * 64 + place) (number * 64 + place + length bytes.now)) }
+    {
+        bytes == self.run(number, place, bytes.len())
     }
 
     /// Returns a copy in which `bytes` are stored at offset `off`.
@@ -124,7 +136,6 @@ impl ObjectBytes {
         off: u64,
         bytes: &[u8],
     ) -> Result<ObjectBytes, AllocError>
-        requires { length bytes.now ≤ 32 }
         ensures { IfOk result
             (λ next. next ≡ record { len = self.now.len; chunks = stored self.now.chunks off bytes.now }) }
     {
@@ -150,19 +161,18 @@ impl ObjectBytes {
 
 /// Stores `bytes` in the chunks at offset `off`.
 fn store_in(chunks: &mut Vec<Chunk>, off: u64, bytes: &[u8]) -> Result<(), AllocError>
-    requires { length bytes.now ≤ 32 }
     ensures { OnOk result (chunks.new.items ≡ stored chunks.old.items off bytes.now) }
 {
-    if bytes.is_empty() {
-        return Ok(());
+    let (mut number, mut place) = chunk_and_place(off);
+    let mut rest = bytes;
+    while !rest.is_empty() {
+        let (run, more) = rest.split_at(first_run(place, rest.len()));
+        store_run(chunks, number, place, run)?;
+        rest = more;
+        number += 1;
+        place = 0;
     }
-    let (number, place) = chunk_and_place(off);
-    let (first, rest) = bytes.split_at(first_run(place, bytes.len()));
-    store_run(chunks, number, place, first)?;
-    if rest.is_empty() {
-        return Ok(());
-    }
-    store_run(chunks, number + 1, 0, rest)
+    Ok(())
 }
 
 /// Returns the number of the chunk that contains an offset, and the offset's place in that chunk.

@@ -4,7 +4,7 @@ use Rattle.std.proofs.lemmas.List.{take-append-drop}
 use Rattle.arrayvec.specs.ArrayVec.{ArrayVec}
 use Rattle.history_object.specs.Carried.{IsKept}
 use Rattle.history_parts.proofs.Products.{kept_behind, kept_cases, kept_either, kept_front}
-use Rattle.history_overlaps.specs.Possible.{AreOtherLoads}
+use Rattle.history_overlaps.specs.Possible.{AreOtherLoads, HasAddedLoad}
 use Rattle.history_overlaps.specs.declared.possible.Loads.{Loads}
 
 -- what is in a beginning is in the list
@@ -23,9 +23,10 @@ kept_inserted {X} xs i y x is = elim (kept_either (take i xs) (y ∷ drop i xs) 
 
 -- one more load
 pub more_loads : (len : ℕ) (answered : List ℕ) (old new : Loads) (load : ArrayVec ℕ) → AreOtherLoads len answered old → length load.items ≡ len → load.items ≢ answered
-    → ((other : ArrayVec ℕ) → IsKept new.least.items other → (other ≡ load) ⊎ IsKept old.least.items other) → AreOtherLoads len answered new
+    → HasAddedLoad old new load → AreOtherLoads len answered new
 more_loads len answered old new load are long apart more = record {
-  each = λ other is. elim (more other is) [
+  few = more.few are.few;
+  each = λ other is. elim (more.each other is) [
     | inl same ↦ subst (λ (l : ArrayVec ℕ). (length l.items ≡ len) × (l.items ≢ answered)) (sym same) (long, apart)
     | inr before ↦ are.each other before
   ];

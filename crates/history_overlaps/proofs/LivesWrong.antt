@@ -5,7 +5,7 @@ use Rattle.std.proofs.lemmas.Option.{get_or_from_slice_get}
 use Rattle.std.proofs.lemmas.Bool.Decides.{eqb_tells}
 use Rattle.model_intervals.specs.Intervals.{Call}
 use Rattle.model_intervals.specs.Objects.{Object as NewObject, IsFairNew, IsMadeAt, Meet, object_made}
-use Rattle.model_intervals.specs.OverlappingCalls.{IsAt, IsFree, IsNew, MakesOne, cell_at}
+use Rattle.model_intervals.specs.OverlappingCalls.{IsAt, IsFree, IsNew, MakesOne}
 use Rattle.model_words.specs.declared.commands.Command.{Command}
 use Rattle.model_words.specs.declared.commands.Command.TheVariants.{New}
 use Rattle.model_words.specs.declared.commands.Reply.{Reply}

@@ -8,7 +8,7 @@ use Rattle.model_words.specs.declared.commands.Command.TheVariants.{Put, Get, Ad
 use Rattle.model_words.specs.declared.commands.Reply.{Reply}
 use Rattle.model_words.specs.declared.commands.Reply.TheVariants.{Done, Bytes, At}
 use Rattle.model_intervals.specs.Intervals.{Call}
-use Rattle.model_intervals.specs.Objects.{Object as AnObject, is_access}
+use Rattle.model_intervals.specs.Objects.{IsMadeAt, Object as AnObject, is_access}
 use Rattle.model_intervals.specs.OverlappingCalls.{HasEffect, IsAt, cell_at}
 use Rattle.text_words.specs.RecordedWords.{plain_reply}
 use Rattle.text_words.specs.declared.recorded.RecordedReply.{RecordedReply}
@@ -28,6 +28,7 @@ use Rattle.history_overlaps.specs.Queues.{object_of}
 use Rattle.history_overlaps.specs.Timelines.{Holds}
 use Rattle.history_overlaps.specs.declared.life.AccessEnd.TheVariants.{Unexplained as NotExplained}
 use Rattle.history_overlaps.specs.declared.life.Life.{Life}
+use Rattle.history_overlaps.specs.declared.objects.NewObject.{NewObject}
 use Rattle.history_overlaps.specs.declared.pending.Pending.{Pending}
 use Rattle.history_overlaps.specs.declared.possible.Unexplained.{Unexplained}
 use Rattle.history_overlaps.proofs.CallPlaces.{at_same}
@@ -54,10 +55,10 @@ taken_call number access old new takes n other (place, is_number, is_call) =
 -- what is told of a refutation
 pub told_at_end : {O : Type 0} (old : Life) (judge : AccessJudge) (number : ℕ) (ended : Option (Refutation O State Access)) (refutation : Refutation O State Access)
     (told : Unexplained) → old.judge ≡ Some judge → ended ≡ Some refutation → IfSome ended (IsRefutedBeside judge number)
-    → IsUnexplainedBy old.object.address old.object.len refutation.call told → IsToldAtEnd old number (NotExplained told)
-told_at_end {O} old judge number ended refutation told has is refuted by =
+    → IsUnexplainedBy old.object.address old.object.len refutation.call told → told.object ≡ old.object → IsToldAtEnd old number (NotExplained told)
+told_at_end {O} old judge number ended refutation told has is refuted by of_object =
     let beside = subst (λ (o : Option (Refutation O State Access)). IfSome o (IsRefutedBeside judge number)) is refuted in
-    let at_end = beside.refuted in (judge, refutation.call, has, (at_end.0, at_end.1, at_end.2.0), by)
+    let at_end = beside.refuted in (judge, refutation.call, has, (at_end.0, at_end.1, at_end.2.0), by, of_object)
 
 -- the answer of an access, and the possible answers, are those of the call
 told_of : (x : AnObject) (command : Command) (reply : Reply) (told : Unexplained) → HasEffect command reply → is_access command ≡ true
@@ -82,7 +83,7 @@ told_of x command reply told effect access is = absurd (cc access)
 pub unexplained_call : (calls : List Call) (waits : ℕ → Option Pending) (lives : ℕ → Option Life) (starts : ℕ → Option ℕ) (cells serials freed : ℕ → Type 0)
     → Holds calls waits lives starts cells serials freed → (number cell : ℕ) (call : Call) → IsAt calls number call → is_access call.entry.command ≡ true → cell_at call ≡ cell
     → (told : Unexplained) → IsToldIn lives cell number (NotExplained told) → IsUnexplainedCall calls call told
-unexplained_call calls waits lives starts cells serials freed h number cell call there access names told (life, alive, (judge, accessed, has, is_call, is)) =
+unexplained_call calls waits lives starts cells serials freed h number cell call there access names told (life, alive, (judge, accessed, has, is_call, is, of_object)) =
     let followed = subst (λ (j : Option AccessJudge). IsJudged calls waits life.object j) has (h.judges.judged cell life alive) in
     let own = followed.is_call number accessed is_call in
     let same = at_same calls number own.0 call own.1 there in
@@ -94,10 +95,9 @@ unexplained_call calls waits lives starts cells serials freed h number cell call
     let m = h.numbered cell life alive in record {
       access = access;
       answers = both.0;
-      object = object_of life.object;
-      place = life.object.number;
       maker = m.0;
-      made = m.1;
-      named = (h.living.live_is cell (object_of life.object) (ap (λ (o : Option Life). option_map (λ l. object_of l.object) o) alive)).0 ∙ sym names;
-      possible = both.1;
+      made = subst (λ (o : NewObject). IsMadeAt calls o.number m.0 (object_of o)) (sym of_object) m.1;
+      named = ap (λ (o : NewObject). o.cell) of_object
+          ∙ (h.living.live_is cell (object_of life.object) (ap (λ (o : Option Life). option_map (λ l. object_of l.object) o) alive)).0 ∙ sym names;
+      possible = subst (λ (o : NewObject). ArePossible (object_of o) call.entry.command call.entry.reply told.possible) (sym of_object) both.1;
     }

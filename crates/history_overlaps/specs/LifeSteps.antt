@@ -55,8 +55,9 @@ pub record HasEndedAt (old new : Life) (number : ℕ) (left : Bool) : Type 0 whe
   pub some : IsTrue left ↔ HasSome effect judge
   pub is_call : (n : ℕ) (access : AnAccess) → IsCallOf judge n access → IsCallOf first n access
 
--- if no configuration is left at the end of the access `number`, its answer and the possible answers are returned
+-- if no configuration is left at the end of the access `number`, the object, its answer and the possible answers are
+-- returned
 abbrev pub IsToldAtEnd : Life → ℕ → AccessEnd → Type 0
 IsToldAtEnd old number Explained = Unit {0}
 IsToldAtEnd old number (Unexplained told) = (judge : AccessJudge) × (access : AnAccess) × (old.judge ≡ Some judge) × IsCallOf judge number access
-    × IsUnexplainedBy old.object.address old.object.len access told
+    × IsUnexplainedBy old.object.address old.object.len access told × (told.object ≡ old.object)

@@ -1,5 +1,5 @@
 -- The answers that a call could have given, if no order explains the recorded answer.
-use Rattle.std.specs.Prelude.{◌≡◌, ◌≢◌, ℕ, ◌+◌, ◌<◌, ◌≤◌, true, List, length}
+use Rattle.std.specs.Prelude.{◌≡◌, ◌≢◌, ◌⊎◌, ℕ, ◌+◌, ◌<◌, ◌≤◌, true, List, length}
 use Rattle.arrayvec.specs.ArrayVec.{ArrayVec}
 use Rattle.model_words.specs.declared.commands.Command.{Command}
 use Rattle.model_words.specs.declared.commands.Command.TheVariants.{Put, Get, Addr}
@@ -14,14 +14,21 @@ use Rattle.text_words.specs.declared.recorded.RecordedReply.TheVariants.{Done as
 use Rattle.history_object.specs.Carried.{IsKept}
 use Rattle.history_object.specs.declared.access.Access.{Access}
 use Rattle.history_object.specs.declared.access.Access.TheVariants.{Store, Load, Nothing, Elsewhere}
+use Rattle.history_overlaps.specs.Queues.{object_of}
 use Rattle.history_overlaps.specs.declared.possible.Loads.{Loads as SomeLoads}
 use Rattle.history_overlaps.specs.declared.possible.Possible.{Possible}
 use Rattle.history_overlaps.specs.declared.possible.Possible.TheVariants.{Only, Loads}
 use Rattle.history_overlaps.specs.declared.possible.Unexplained.{Unexplained}
 
--- each of the loads has `len` bytes, and isn't the one that was answered
+-- the loads are at most 8. Each has `len` bytes, and isn't the one that was answered
 pub record AreOtherLoads (len : ℕ) (answered : List ℕ) (loads : SomeLoads) : Type 0 where
+  pub few : length loads.least.items ≤ 8
   pub each : (load : ArrayVec ℕ) → IsKept loads.least.items load → (length load.items ≡ len) × (load.items ≢ answered)
+
+-- at most this load was added to the list, which still has at most 8
+pub record HasAddedLoad (old new : SomeLoads) (load : ArrayVec ℕ) : Type 0 where
+  pub each : (other : ArrayVec ℕ) → IsKept new.least.items other → (other ≡ load) ⊎ IsKept old.least.items other
+  pub few : length old.least.items ≤ 8 → length new.least.items ≤ 8
 
 -- the answers that a load from an object of `size` bytes could have given: the refusal OUTSIDE if the range ends past
 -- the object, and otherwise other loads than the one that was answered
@@ -43,14 +50,12 @@ ArePossible x (Get cell off len) (Bytes answered) possible = ArePossibleLoads x.
 ArePossible x (Addr cell) reply possible = possible ≡ Only (RecordedAt x.address)
 ArePossible x command reply possible = ⊥
 
--- the call is an access, and this is its answer. The object that it names is among these calls, and these answers were
--- possible
+-- the call is an access to this object, and this is its answer. The object was made by the call of its number among
+-- these calls, and these answers were possible
 pub record IsUnexplainedCall (calls : List Call) (call : Call) (told : Unexplained) : Type 0 where
   pub access : is_access call.entry.command ≡ true
   pub answers : call.entry.reply ≡ plain_reply told.answer
-  pub object : Object
-  pub place : ℕ
   pub maker : Call
-  pub made : IsMadeAt calls place maker object
-  pub named : object.cell ≡ cell_at call
-  pub possible : ArePossible object call.entry.command call.entry.reply told.possible
+  pub made : IsMadeAt calls told.object.number maker (object_of told.object)
+  pub named : told.object.cell ≡ cell_at call
+  pub possible : ArePossible (object_of told.object) call.entry.command call.entry.reply told.possible

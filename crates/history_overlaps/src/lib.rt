@@ -34,6 +34,7 @@ pub use begins::access_of;
 pub use checks::check_calls;
 pub use flaws::Flaw;
 pub use misuses::{Misuse, Misused, NotBegun};
+pub use objects::NewObject;
 pub use orders::linearize;
 pub use possible::{Loads, Possible, Unexplained};
 pub use stops::{Found, Stop};

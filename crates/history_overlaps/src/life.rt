@@ -88,10 +88,10 @@ impl Life {
         }
         match judge.end(alloc, number, most)? {
             None => Ok(Some(AccessEnd::Explained)),
-            Some(refutation) => Ok(Some(AccessEnd::Unexplained(unexplained_access(
-                self.object,
-                refutation,
-            )))),
+            Some(refutation) => {
+                let unexplained = unexplained_access(alloc, self.object, refutation)?;
+                Ok(Some(AccessEnd::Unexplained(unexplained)))
+            }
         }
     }
 }

@@ -113,7 +113,7 @@ pub fn set_aside(
     parts: &mut Vec<Part>,
     range: Range,
 ) -> Result<(), AllocError>
-    requires few { range.len ≤ 32 }
+    requires few { range.len ≤ 4096 }
     requires aside { AreAside judge.old.standing.kept (stores_of parts.old.items) }
     ensures same { OnOk result (IsSameWhole judge.old judge.new parts.old.items parts.new.items) }
     ensures aside { AreAside judge.new.standing.kept (stores_of parts.new.items) }

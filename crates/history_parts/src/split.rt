@@ -8,13 +8,12 @@ ghost use Rattle.history_parts.specs.Splits.{AreAfter, AreStoresTo, Fits, IsSpli
 ghost use Rattle.history_parts.specs.Products.{AreSame, product};
 
 use crate::product::{add_after, product};
-use arrayvec::ArrayVec;
+use history_bytes::RecordedBytes;
 use history_object::{Access, Configuration, ObjectBytes};
-use model_words::MAX_BYTES;
 use states_pool::Pool;
 use std::alloc::{AllocError, Global};
 
-/// A range of at most 32 bytes.
+/// A range of at most 4,096 bytes.
 #[derive(Clone, Copy)]
 pub struct Range {
     /// The offset of the first byte.
@@ -34,7 +33,7 @@ pub struct Split {
 
 /// Returns the range of bytes that an access reads or changes.
 pub fn range_of(access: &Access) -> Range
-    ensures { result.len ≤ 32 }
+    ensures { result.len ≤ 4096 }
 {
     match access {
         Access::Store(off, bytes) | Access::Load(off, _, bytes) => Range {
@@ -53,7 +52,7 @@ pub fn split_by(
     kept: &Pool<Configuration<ObjectBytes>>,
     range: Range,
 ) -> Result<Option<Split>, AllocError>
-    requires { range.len ≤ 32 }
+    requires { range.len ≤ 4096 }
     ensures { IfOk result (λ split. IfSome split (λ parts. IsSplit kept.now parts.rest parts.stores.items)) }
 {
     if !fits(kept, range) {
@@ -89,13 +88,14 @@ fn stores_of(
     kept: &Pool<Configuration<ObjectBytes>>,
     range: Range,
 ) -> Result<Vec<Access>, AllocError>
-    requires few { range.len ≤ 32 }
+    requires few { range.len ≤ 4096 }
     requires fits { Fits kept.now range.off range.len }
     ensures { IfOk result (λ stores. AreStoresTo range.off range.len stores.items) }
 {
     let mut stores = Vec::new(alloc);
     for place in 0..kept.len() {
-        add(&mut stores, store_in(&kept.get(place as u32).state, range))?;
+        let store = store_in(alloc, &kept.get(place as u32).state, range)?;
+        add(&mut stores, store)?;
     }
     Ok(stores)
 }
@@ -112,12 +112,13 @@ fn add(stores: &mut Vec<Access>, store: Access) -> Result<(), AllocError>
 }
 
 /// Returns a store of the bytes that a range has.
-fn store_in(state: &ObjectBytes, range: Range) -> Access
-    requires few { range.len ≤ 32 }
+fn store_in(alloc: Global, state: &ObjectBytes, range: Range) -> Result<Access, AllocError>
+    requires few { range.len ≤ 4096 }
     requires fits { range.off + range.len ≤ length (bytes_of state.now) }
-    ensures { IsStoreTo range.off range.len result }
+    ensures { IfOk result (IsStoreTo range.off range.len) }
 {
-    Access::Store(range.off, state.load(range.off, range.len))
+    let bytes = state.load(alloc, range.off, range.len)?;
+    Ok(Access::Store(range.off, bytes))
 }
 
 /// Whether one of the accesses stores the same bytes as another store.
@@ -146,22 +147,34 @@ fn without(
     kept: &Pool<Configuration<ObjectBytes>>,
     range: Range,
 ) -> Result<Pool<Configuration<ObjectBytes>>, AllocError>
-    requires { range.len ≤ 32 }
+    requires { range.len ≤ 4096 }
     ensures { IfOk result (λ rest. AreAfter kept.now rest) }
 {
-    let zeros = zeros(range);
+    let zeros = zeros(alloc, range)?;
+    all_after(alloc, kept, &zeros)
+}
+
+/// Returns the configurations after a store.
+fn all_after(
+    alloc: Global,
+    kept: &Pool<Configuration<ObjectBytes>>,
+    store: &Access,
+) -> Result<Pool<Configuration<ObjectBytes>>, AllocError>
+    ensures { IfOk result (λ rest. AreAfter kept.now rest) }
+{
     let mut rest = Pool::new(alloc);
     for place in 0..kept.len() {
-        add_after(alloc, kept.get(place as u32), &zeros, &mut rest)?;
+        add_after(alloc, kept.get(place as u32), store, &mut rest)?;
     }
     Ok(rest)
 }
 
 /// Returns a store of zeros to a range.
-fn zeros(range: Range) -> Access {
-    let mut bytes = ArrayVec::from([0; MAX_BYTES]);
-    bytes.truncate(range.len as usize);
-    Access::Store(range.off, bytes)
+fn zeros(alloc: Global, range: Range) -> Result<Access, AllocError>
+    requires { range.len ≤ 4096 }
+{
+    let bytes = RecordedBytes::zeros(alloc, range.len as usize)?;
+    Ok(Access::Store(range.off, bytes))
 }
 
 /// Whether the kept configurations are exactly the rest after one of the stores. `false` also if an allocation fails.

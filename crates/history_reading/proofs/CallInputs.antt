@@ -1,5 +1,6 @@
 -- The calls that a device gives, line by line.
-use Rattle.std.proofs.Common.{◌≡◌, ℕ, ◌+◌, ◌≤◌, true, List, [], ◌∷◌, ◌++◌, Option, Some, None, Ok, length, length-append, ap, refl, sym, ◌∙◌, arith, inl, inr, ne_eqb}
+use Rattle.std.proofs.Common.{◌≡◌, ◌≢◌, ℕ, ◌+◌, ◌<◌, ◌≤◌, ◌^◌, true, false, List, [], ◌∷◌, ◌++◌, Option, Some, None, Ok, Err, length, length-append, ap, refl, sym, ◌∙◌, arith, inl, inr, ne_eqb}
+use Rattle.std.proofs.lemmas.Bool.{lt-leb}
 use Rattle.model_intervals.specs.Intervals.{Call}
 use Rattle.model_words.specs.declared.faults.TextFault.{TextFault}
 use Rattle.text_devices.specs.declared.faults.ReplayError.{ReplayError}
@@ -9,6 +10,7 @@ use Rattle.text_fields.proofs.Splits.{some_part}
 use Rattle.text_devices.specs.LineInputs.{BadEnd, HasCome as LinesCome, HasEnded as LinesEnded, HasStopped as LinesStopped, Long, OneTooMany, unread_of}
 use Rattle.text_devices.proofs.LineInputs.{none_come}
 use Rattle.history_reading.specs.CallFaults.{call_error_of}
+use Rattle.history_reading.specs.CallFiles.{call_in}
 use Rattle.history_reading.specs.CallInputs.{HasCome, HasEnded, HasNext, HasStopped, IsFaultOf, IsFresh, lines_before, next_line}
 use Rattle.history_reading.specs.CallOrders.{IsOrderOf}
 use Rattle.history_reading.specs.CallReadings.{CallFault, Head, OfCall, OfText, OutOfOrder, calls_from, calls_of, is_in_order, next_in}
@@ -146,3 +148,9 @@ no_call_came history left fresh = record {
   line = rw fresh.lines.lines refl;
   order = fresh.order;
 }
+
+-- a call that isn't in order
+pub out_of_order : (lines number : ℕ) (calls : List Call) (line : List ℕ) (call : Call) → lines + 1 ≡ number → number < 2 ^ 32 → number ≢ 1
+    → call_in line ≡ Ok call → is_in_order calls call ≡ false → next_in lines calls line ≡ Err (OutOfOrder number)
+out_of_order lines number calls line call counted few later read out =
+    rw (lt-leb 4294967295 lines (omega (arith, counted, few)), ne_eqb lines 0 (λ is. later (omega (arith, is, counted))), read, out, counted) refl

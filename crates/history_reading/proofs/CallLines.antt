@@ -1,7 +1,8 @@
 -- The fields of a call, and what they are read as.
-use Rattle.std.proofs.Common.{◌≡◌, ℕ, ◌<◌, true, List, [], ◌∷◌, length, ap, refl, ◌∙◌, arith, Result, Ok, Err}
+use Rattle.std.proofs.Common.{◌≡◌, ℕ, ◌<◌, ◌≤◌, true, List, [], ◌∷◌, drop, get_or, length, ap, refl, ◌∙◌, arith, Result, Ok, Err}
 use Rattle.model_history.specs.Recorded.{many_cells}
 use Rattle.model_intervals.specs.OverlappingCalls.{HasEffect, cell_of}
+use Rattle.model_jobs.specs.JobFiles.{number_in}
 use Rattle.model_words.specs.Words.{◌>>=◌}
 use Rattle.model_words.specs.declared.commands.Command.{Command}
 use Rattle.model_words.specs.declared.commands.Command.TheVariants.{New, Put, Get, Free, Addr}
@@ -10,13 +11,16 @@ use Rattle.model_words.specs.declared.commands.Reply.TheVariants.{Object as Made
 use Rattle.model_words.specs.declared.faults.FaultKind.{FaultKind}
 use Rattle.model_words.specs.declared.faults.FaultKind.TheVariants.{Word}
 use Rattle.text_fields.specs.Commands.{IsWithin, plain_command}
+use Rattle.text_fields.specs.Fields.{IsUnread}
 use Rattle.text_fields.specs.Lines.{texts}
 use Rattle.text_fields.specs.declared.commands.SpeltCommand.{SpeltCommand}
 use Rattle.text_fields.specs.declared.commands.SpeltCommand.TheVariants.{New as SpeltNew, Put as SpeltPut, Get as SpeltGet, Free as SpeltFree, Alias as SpeltAlias, Addr as SpeltAddr, Peek as SpeltPeek, Poke as SpeltPoke, Copy as SpeltCopy}
+use Rattle.text_fields.specs.declared.faults.LineFault.{LineFault}
+use Rattle.text_fields.proofs.Unread.{unread_then}
 use Rattle.history_reading.proofs.Sizes.{sized_within}
 use Rattle.text_words.specs.RecordedWords.{IsNarrow, plain_reply}
 use Rattle.text_words.specs.declared.recorded.RecordedReply.{RecordedReply}
-use Rattle.history_reading.specs.CallFiles.{Asked, answered, call_asked_in, call_of, effect_in, has_effect}
+use Rattle.history_reading.specs.CallFiles.{Asked, answered, call_asked_in, call_of, effect_in, end_in, has_effect, object_command_in}
 use Rattle.history_reading.specs.CallWords.{IsCallRead, IsReadAsked, plain_asked}
 use Rattle.history_reading.specs.declared.asked.AskedCall.{AskedCall}
 use denote.Ref.{Bor}
@@ -78,3 +82,15 @@ call_read before behind asked reply first sound second narrow effect = (
     cell = cell_below asked.command sound.within;
   },
 )
+
+-- a command that isn't read behind a worker and moments that are
+pub command_unread : (fields : List (Bor (List ℕ))) (w b e c : Bor (List ℕ)) (asking from to : ℕ) (fault : LineFault) → 4 ≤ length fields
+    → number_in 0 65535 (get_or fields 0 w).now ≡ Ok asking → number_in 0 18446744073709551615 (get_or fields 1 b).now ≡ Ok from
+    → end_in from (get_or fields 2 e).now ≡ Ok to → IsUnread 4096 (object_command_in (get_or fields 3 c).now (texts (drop 4 fields))) fault
+    → IsUnread 4096 (call_asked_in (texts fields)) fault
+command_unread [] w b e c asking from to fault long worker begin end unread = absurd (omega (arith, long))
+command_unread (a1 ∷ []) w b e c asking from to fault long worker begin end unread = absurd (omega (arith, long))
+command_unread (a1 ∷ a2 ∷ []) w b e c asking from to fault long worker begin end unread = absurd (omega (arith, long))
+command_unread (a1 ∷ a2 ∷ a3 ∷ []) w b e c asking from to fault long worker begin end unread = absurd (omega (arith, long))
+command_unread (a1 ∷ a2 ∷ a3 ∷ a4 ∷ fields) w b e c asking from to fault long worker begin end unread =
+    rw (worker, begin, end) (unread_then 4096 (object_command_in a4.now (texts fields)) _ fault unread)

@@ -54,33 +54,33 @@ fault_read lines calls line next later fault read is =
 
 -- ---- a line that is too long
 
-long_next : (lines : ℕ) (calls : List Call) (line : List ℕ) → 1024 < length line → next_in lines calls line ≡ Err (OfText (long_line lines))
+long_next : (lines : ℕ) (calls : List Call) (line : List ℕ) → 16384 < length line → next_in lines calls line ≡ Err (OfText (long_line lines))
 long_next lines calls line long = go (is_full lines) (nat_eq lines 0) refl refl
   where
     go : (full first : Bool) → is_full lines ≡ full → nat_eq lines 0 ≡ first → next_in lines calls line ≡ Err (OfText (long_line lines))
     go true first is head = rw is refl
     go false true is head = elim (eqb_tells lines 0) [
-      | inl zero ↦ (let none = zero.1 in rw (is, head, le-leb 1025 (length line) (omega (arith, long)), none) refl)
+      | inl zero ↦ (let none = zero.1 in rw (is, head, le-leb 16385 (length line) (omega (arith, long)), none) refl)
       | inr some ↦ (let e : true ≡ false = sym head ∙ some.0 in absurd (cc e))
     ]
-    go false false is head = rw (is, head, le-leb 1025 (length line) (omega (arith, long))) refl
+    go false false is head = rw (is, head, le-leb 16385 (length line) (omega (arith, long))) refl
 
-long_end : (lines : ℕ) (line : List ℕ) → 1024 < length line → end_fault lines line ≡ Some (long_line lines)
+long_end : (lines : ℕ) (line : List ℕ) → 16384 < length line → end_fault lines line ≡ Some (long_line lines)
 long_end lines [] long = absurd (omega (arith, long))
 long_end lines (b ∷ bs) long = go (is_full lines) refl
   where
     go : (full : Bool) → is_full lines ≡ full → end_fault lines (b ∷ bs) ≡ Some (long_line lines)
     go true is = rw is refl
-    go false is = rw (is, rest_too_long (b ∷ bs) long) refl
+    go false is = rw (is, rest_too_long 16384 (b ∷ bs) long) refl
 
-long_first : (lines : ℕ) (calls : List Call) (line : List ℕ) (later : List (List ℕ)) → 1024 < length line
+long_first : (lines : ℕ) (calls : List Call) (line : List ℕ) (later : List (List ℕ)) → 16384 < length line
     → calls_from lines calls (line ∷ later) ≡ record { calls = calls; fault = Some (OfText (long_line lines)) }
 long_first lines calls line [] long =
     ap (λ (fault : Option TextFault). record { calls = calls; fault = option_map OfText fault }) (long_end lines line long)
 long_first lines calls line (next ∷ later) long =
     ap (λ (found : Result CallLine CallFault). read_on found calls (λ behind. calls_from (lines + 1) behind (next ∷ later))) (long_next lines calls line long)
 
-pub long_read : (lines : List (List ℕ)) (calls : List Call) (long : List ℕ) (rest : List (List ℕ)) → AreRead lines calls → 1024 < length long
+pub long_read : (lines : List (List ℕ)) (calls : List Call) (long : List ℕ) (rest : List (List ℕ)) → AreRead lines calls → 16384 < length long
     → calls_from 0 [] (lines ++ long ∷ rest) ≡ record { calls = calls; fault = Some (OfText (long_line (length lines))) }
 long_read lines calls long rest read over = read.reads long rest ∙ long_first (length lines) calls long rest over
 

@@ -59,10 +59,10 @@ of_word word fields is =
         | inr free ↦ among (codes "free") free (of_one (one_field fields) wide_in (λ cell. Free cell) (λ cell. tt))
         | inl three ↦ elim (either (are_same word (codes "new") || are_same word (codes "put")) (are_same word (codes "get")) three) [
           | inr get ↦ among (codes "get") get
-              (of_three (three_fields fields) (λ f. wide_in f.0) (λ f. size_in f.1) (λ f. count_in f.2) (λ cell off len. Get cell off len) (λ cell off len. tt))
+              (of_three (three_fields fields) (λ f. wide_in f.0) (λ f. size_in f.1) (λ f. count_in 4096 f.2) (λ cell off len. Get cell off len) (λ cell off len. tt))
           | inl two ↦ elim (either (are_same word (codes "new")) (are_same word (codes "put")) two) [
             | inr put ↦ among (codes "put") put
-                (of_three (three_fields fields) (λ f. wide_in f.0) (λ f. size_in f.1) (λ f. bytes_in f.2) (λ cell off bytes. Put cell off (record { items = bytes }))
+                (of_three (three_fields fields) (λ f. wide_in f.0) (λ f. size_in f.1) (λ f. bytes_in 4096 f.2) (λ cell off bytes. Put cell off (record { items = bytes }))
                 (λ cell off bytes. tt))
             | inl new ↦ among (codes "new") new
                 (of_three (three_fields fields) (λ f. wide_in f.0) (λ f. size_in f.1) (λ f. word_in f.2) (λ cell len w. New cell len w) (λ cell len w. tt))

@@ -14,8 +14,7 @@ use Rattle.model_jobs.specs.JobFiles.{is_between, is_empty, is_printable, number
 use Rattle.model_jobs.specs.Texts.{hex_from}
 use Rattle.model_words.specs.declared.commands.Command.TheVariants.{New, Free, Alias}
 use Rattle.model_words.specs.declared.commands.Reply.TheVariants.{Object as Made, Done}
-use Rattle.model_words.specs.Commands.{IsInRange}
-use Rattle.text_fields.specs.Commands.{place_in, plain_command, size_in, wide_in}
+use Rattle.text_fields.specs.Commands.{IsRecordable, place_in, plain_command, size_in, wide_in}
 use Rattle.text_fields.specs.KeptLines.{IsUnended}
 use Rattle.text_fields.specs.Lines.{line_fields}
 use Rattle.text_fields.proofs.LineSteps.{bytes_taken}
@@ -96,20 +95,20 @@ pub record IsLineOf (text : List ℕ) (fields : List (List ℕ)) (rest : List �
   pub line : List ℕ
   pub whole : text ≡ line ++ 10 ∷ rest
   pub unended : IsUnended line
-  pub short : length line ≤ 1024
+  pub short : length line ≤ 16384
   pub read : entry_in line ≡ entry_fields fields
 
 pub line_of : (text : List ℕ) (field : List ℕ) (fields : List (List ℕ)) (rest : List ℕ) → text ≡ ended_line (field ∷ fields) rest → AreFields (field ∷ fields)
     → length fields ≤ 40 → IsLineOf text (field ∷ fields) rest
 line_of text field fields rest is are few =
     let printable = line_printable (field ∷ fields) are in
-    let short : length (joined (field ∷ fields)) ≤ 1024 = omega (arith, line_length (field ∷ fields) are, few) in
+    let short : length (joined (field ∷ fields)) ≤ 16384 = omega (arith, line_length (field ∷ fields) are, few) in
     record {
       line = joined (field ∷ fields);
       whole = is ∙ ended_joined (field ∷ fields) rest;
       unended = printable_unended (joined (field ∷ fields)) printable;
       short = short;
-      read = rw (bytes_taken (joined (field ∷ fields)) short printable, fields_cut field fields are) refl;
+      read = rw (bytes_taken 16384 (joined (field ∷ fields)) short printable, fields_cut field fields are) refl;
     }
 
 -- the test of a word
@@ -166,7 +165,7 @@ alias_fields w t f worker to from bw bt bf iw it if' = rw (bw.filled, bt.filled,
 
 -- a line of fields that are read as an entry
 entry_of_line : (text : List ℕ) (fields : List (List ℕ)) (rest : List ℕ) (entry : RecordedEntry) → IsLineOf text fields rest → entry_fields fields ≡ Ok (plain_entry entry)
-    → IsInRange (plain_command entry.command) → IsSized (plain_command entry.command) → IsNarrow entry.reply → IsQuickEntry text entry rest
+    → IsRecordable (plain_command entry.command) → IsSized (plain_command entry.command) → IsNarrow entry.reply → IsQuickEntry text entry rest
 entry_of_line text fields rest entry line read in_range sized narrow = record {
   line = line.line;
   whole = line.whole;

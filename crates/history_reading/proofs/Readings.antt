@@ -4,9 +4,8 @@ use Rattle.std.specs.Prelude.{IfErr, IfOk, IsErrAnd, IsNone}
 use Rattle.std.proofs.lemmas.Bool.{le-leb, ne_eqb}
 use Rattle.std.proofs.lemmas.Bool.Decides.{leb_tells}
 use Rattle.std.proofs.lemmas.List.Splits.{slice_split_at, slice_split_none}
-use Rattle.model_words.specs.Commands.{IsInRange}
 use Rattle.model_words.specs.declared.faults.TextFault.{TextFault}
-use Rattle.text_fields.specs.Commands.{plain_command}
+use Rattle.text_fields.specs.Commands.{IsRecordable, plain_command}
 use Rattle.text_fields.specs.KeptLines.{IsUnended}
 use Rattle.text_fields.specs.Lines.{text_lines}
 use Rattle.text_fields.proofs.KeptLines.{both_unended, rest_too_long}
@@ -47,7 +46,7 @@ later_line reader later = rw (ne_eqb (lines_of reader) 0 (λ is. omega (arith, i
 
 -- the line of an entry ends
 pub entry_ended : (old new : EntryReader) (last : List ℕ) (entry : RecordedEntry) → IsUnended last → next_in (lines_of old) (begun_of old ++ last) ≡ Ok (OfEntry (plain_entry entry))
-    → 1 ≤ lines_of old → lines_of new ≡ lines_of old + 1 → begun_of new ≡ [] → IsInRange (plain_command entry.command)
+    → 1 ≤ lines_of old → lines_of new ≡ lines_of old + 1 → begun_of new ≡ [] → IsRecordable (plain_command entry.command)
     → IsSized (plain_command entry.command) → IsNarrow entry.reply → HasRead old new (last ++ 10 ∷ []) entry []
 entry_ended old new last entry unended read later lines begun in_range sized narrow = record {
   reads = λ more.
@@ -107,32 +106,32 @@ pub next_whole : (old : EntryReader) (last : List ℕ) → begun_of old ≡ [] �
 next_whole old last none = ap (λ (begun : List ℕ). next_in (lines_of old) (begun ++ last)) (sym none)
 
 -- a line that is too long
-long_next : (lines : ℕ) (line : List ℕ) → 1024 < length line → next_in lines line ≡ Err (long_line lines)
+long_next : (lines : ℕ) (line : List ℕ) → 16384 < length line → next_in lines line ≡ Err (long_line lines)
 long_next lines line long = go (is_full lines) (nat_eq lines 0) refl refl
   where
     go : (full first : Bool) → is_full lines ≡ full → nat_eq lines 0 ≡ first → next_in lines line ≡ Err (long_line lines)
     go true first is head = rw is refl
-    go false true is head = rw (is, head, le-leb 1025 (length line) (omega (arith, long))) refl
-    go false false is head = rw (is, head, le-leb 1025 (length line) (omega (arith, long))) refl
+    go false true is head = rw (is, head, le-leb 16385 (length line) (omega (arith, long))) refl
+    go false false is head = rw (is, head, le-leb 16385 (length line) (omega (arith, long))) refl
 
-long_end : (lines : ℕ) (line : List ℕ) → 1024 < length line → end_fault lines line ≡ Some (long_line lines)
+long_end : (lines : ℕ) (line : List ℕ) → 16384 < length line → end_fault lines line ≡ Some (long_line lines)
 long_end lines [] long = absurd (omega (arith, long))
 long_end lines (b ∷ bs) long = go (is_full lines) refl
   where
     go : (full : Bool) → is_full lines ≡ full → end_fault lines (b ∷ bs) ≡ Some (long_line lines)
     go true is = rw is refl
-    go false is = rw (is, rest_too_long (b ∷ bs) long) refl
+    go false is = rw (is, rest_too_long 16384 (b ∷ bs) long) refl
 
-long_first : (lines : ℕ) (line : List ℕ) (later : List (List ℕ)) → 1024 < length line → reading_from lines (line ∷ later) ≡ ends_with (Some (long_line lines))
+long_first : (lines : ℕ) (line : List ℕ) (later : List (List ℕ)) → 16384 < length line → reading_from lines (line ∷ later) ≡ ends_with (Some (long_line lines))
 long_first lines line [] long = ap ends_with (long_end lines line long)
 long_first lines line (next ∷ later) long = ap (λ (read : Result LineRead TextFault). read_on read (reading_from (lines + 1) (next ∷ later))) (long_next lines line long)
 
 -- bytes of a line come that are too many
-pub long_kept : (old : EntryReader) (bytes : List ℕ) (fault : ReadFault) → IsUnended bytes → 1024 - length (begun_of old) < length bytes
+pub long_kept : (old : EntryReader) (bytes : List ℕ) (fault : ReadFault) → IsUnended bytes → 16384 - length (begun_of old) < length bytes
     → fault ≡ Text (long_line (lines_of old)) → HasFault old bytes fault
 long_kept old bytes fault unended many is = subst (λ (f : ReadFault). HasFault old bytes f) (sym is) (λ more.
     let line = unended_more (begun_of old ++ bytes) more (slice_split_none (λ b. nat_eq b 10) (begun_of old ++ bytes) (both_unended (begun_of old) bytes old.begun.unended unended)) in
-    let long : 1024 < length ((begun_of old ++ bytes) ++ line.behind)
+    let long : 16384 < length ((begun_of old ++ bytes) ++ line.behind)
     = omega (arith, many, length-append (begun_of old ++ bytes) line.behind, length-append (begun_of old) bytes) in
     ap (λ (text : List ℕ). reading_from (lines_of old) (text_lines text)) (sym (append_assoc (begun_of old) bytes more))
     ∙ ap (reading_from (lines_of old)) line.is ∙ long_first (lines_of old) ((begun_of old ++ bytes) ++ line.behind) line.later long)

@@ -64,7 +64,7 @@ has_effect command reply = false
 
 -- the answer to a command in these fields, if it shows the command's effect, or else a fault
 abbrev pub effect_in : Command → List (List ℕ) → Result Reply FaultKind
-effect_in command fields = answer_in fields >>= λ reply. refuse_if Word (not (has_effect command reply)) >>= λ _. Ok reply
+effect_in command fields = answer_in 4096 fields >>= λ reply. refuse_if Word (not (has_effect command reply)) >>= λ _. Ok reply
 
 -- the call of a command with this answer
 abbrev pub answered : Asked → Reply → Call
@@ -106,7 +106,7 @@ call_fields fields =
 
 -- the call of a line, without the line's end, or its fault
 abbrev pub call_in : List ℕ → Result Call FaultKind
-call_in line = bytes_fit line >>= λ _. call_fields (line_fields line)
+call_in line = bytes_fit 16384 line >>= λ _. call_fields (line_fields line)
 
 -- success if these are the fields of the first line, `history 2`, or else the fault
 abbrev pub call_head_fields : List (List ℕ) → Result (Unit {0}) FaultKind
@@ -116,4 +116,4 @@ call_head_fields (word ∷ fields) =
 
 -- success if the line, without its end, is the first line of a history of overlapping calls, or else its fault
 abbrev pub call_head_in : List ℕ → Result (Unit {0}) FaultKind
-call_head_in line = bytes_fit line >>= λ _. call_head_fields (line_fields line)
+call_head_in line = bytes_fit 16384 line >>= λ _. call_head_fields (line_fields line)

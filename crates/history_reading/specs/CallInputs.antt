@@ -86,6 +86,12 @@ abbrev pub IsFaultIn : {A : Type 0} → ℕ → Result A FaultKind → CallError
 IsFaultIn number read (Text fault) = IsFaultAt number read fault
 IsFaultIn number read error = ⊥
 
+-- why no call was read in the line with this number: its fault, or an allocation failed
+abbrev pub IsUnreadIn : {A : Type 0} → ℕ → Result A FaultKind → CallError → Type 0
+IsUnreadIn number read (Text fault) = IsFaultAt number read fault
+IsUnreadIn number read Memory = Unit {0}
+IsUnreadIn number read error = ⊥
+
 -- what a line after `lines` lines and these calls is read as: the head, a call in order, which the new order includes,
 -- or a fault. `Memory` claims nothing
 abbrev pub IsTaken : CallInput → ℕ → List Call → List ℕ → Result (Option TimedCall) CallError → Type 0

@@ -2,8 +2,7 @@
 use Rattle.std.specs.Prelude.{◌≡◌, ◌⊎◌, ℕ, ◌+◌, ◌<◌, ◌≤◌, List, [], ◌++◌, Option, Some, None, length}
 use Rattle.std.specs.Io.KnownBytes.{Consumes, IsAtEnd}
 use Rattle.model_memory.specs.Plain.{Entry}
-use Rattle.model_words.specs.Commands.{IsInRange}
-use Rattle.text_fields.specs.Commands.{plain_command}
+use Rattle.text_fields.specs.Commands.{IsRecordable, plain_command}
 use Rattle.text_fields.specs.declared.faults.ReadFault.{ReadFault}
 use Rattle.text_fields.specs.declared.faults.ReadFault.TheVariants.{Text as FaultyText, Memory as OfMemory}
 use Rattle.text_devices.specs.declared.faults.ReplayError.{ReplayError}
@@ -32,7 +31,7 @@ pub record IsFresh (history : HistoryInput) : Type 0 where
 pub record IsNext (old new : HistoryInput) (entry : RecordedEntry) : Type 0 where
   pub reads : (more : List ℕ) → reading_left old more ≡ with_entry (plain_entry entry) (reading_left new more)
   pub line : lines_before new ≡ next_line old.reader
-  pub in_range : IsInRange (plain_command entry.command)
+  pub in_range : IsRecordable (plain_command entry.command)
   pub sized : IsSized (plain_command entry.command)
   pub narrow : IsNarrow entry.reply
 

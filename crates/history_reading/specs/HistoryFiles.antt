@@ -37,7 +37,7 @@ asked_in (worker ∷ word ∷ fields) = number_in 0 65535 worker >>= λ asking. 
 -- the entry of the fields before and after its arrow, or its first fault from left to right
 abbrev pub entry_of : List (List ℕ) → List (List ℕ) → Result Entry FaultKind
 entry_of before behind =
-    asked_in before >>= λ asked. answer_in behind >>= λ reply. Ok (record { worker = asked.0; command = asked.1; reply = reply })
+    asked_in before >>= λ asked. answer_in 4096 behind >>= λ reply. Ok (record { worker = asked.0; command = asked.1; reply = reply })
 
 -- the entry of these fields, at most 35 and none of them empty, or its fault
 abbrev pub entry_fields : List (List ℕ) → Result Entry FaultKind
@@ -47,7 +47,7 @@ entry_fields fields =
 
 -- the entry of a line, without the line's end, or its fault
 abbrev pub entry_in : List ℕ → Result Entry FaultKind
-entry_in line = bytes_fit line >>= λ _. entry_fields (line_fields line)
+entry_in line = bytes_fit 16384 line >>= λ _. entry_fields (line_fields line)
 
 -- success if these are the fields of the first line, `history 1`, or else the fault
 abbrev pub head_fields : List (List ℕ) → Result (Unit {0}) FaultKind
@@ -57,4 +57,4 @@ head_fields (word ∷ fields) =
 
 -- success if the line, without its end, is the first line of a history, or else its fault
 abbrev pub head_in : List ℕ → Result (Unit {0}) FaultKind
-head_in line = bytes_fit line >>= λ _. head_fields (line_fields line)
+head_in line = bytes_fit 16384 line >>= λ _. head_fields (line_fields line)

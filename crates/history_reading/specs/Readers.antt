@@ -1,9 +1,8 @@
 -- The entries of a text that comes in pieces: whatever follows, the rest of the text reads the same before and after a
 -- piece was taken, but for the entry that was read.
 use Rattle.std.specs.Prelude.{◌≡◌, ℕ, ◌+◌, ◌-◌, ◌<◌, ◌≤◌, if◌then◌else◌, nat_eq, List, [], ◌++◌, Option, Some, Result, Err, IfOk, IfSome, length}
-use Rattle.model_words.specs.Commands.{IsInRange}
 use Rattle.model_words.specs.declared.faults.TextFault.{TextFault}
-use Rattle.text_fields.specs.Commands.{plain_command}
+use Rattle.text_fields.specs.Commands.{IsRecordable, plain_command}
 use Rattle.text_fields.specs.Lines.{text_lines}
 use Rattle.text_fields.specs.declared.faults.ReadFault.{ReadFault}
 use Rattle.text_fields.specs.declared.faults.ReadFault.TheVariants.{Text, Memory as OfMemory}
@@ -31,7 +30,7 @@ reading_behind reader more = reading_from (lines_of reader) (text_lines (begun_o
 
 -- an upper bound of the bytes that a reader still reads before an entry ends or a fault is found
 abbrev pub bytes_left : EntryReader → ℕ
-bytes_left reader = (if nat_eq (lines_of reader) 0 then 1025 else 0) + (1024 - length (begun_of reader))
+bytes_left reader = (if nat_eq (lines_of reader) 0 then 16385 else 0) + (16384 - length (begun_of reader))
 
 -- the text's next entry was read of the front of the piece, and `rest` is the rest of the piece. The entry's command
 -- and reply are in their ranges
@@ -42,7 +41,7 @@ pub record HasRead (old new : EntryReader) (piece : List ℕ) (entry : RecordedE
   pub front : List ℕ
   pub whole : piece ≡ front ++ rest
   pub shorter : length rest < length piece
-  pub in_range : IsInRange (plain_command entry.command)
+  pub in_range : IsRecordable (plain_command entry.command)
   pub sized : IsSized (plain_command entry.command)
   pub narrow : IsNarrow entry.reply
 
@@ -58,10 +57,10 @@ abbrev pub HasFault : EntryReader → List ℕ → ReadFault → Type 0
 HasFault old piece (Text fault) = (more : List ℕ) → reading_behind old (piece ++ more) ≡ ends_with (Some fault)
 HasFault old piece OfMemory = Unit {0}
 
--- the fault is the one that the reading of a line returned
+-- the fault is the one that the reading of a line returned. If an allocation failed, nothing is claimed
 abbrev pub IsFaultOf : Result LineRead TextFault → ReadFault → Type 0
 IsFaultOf read (Text fault) = read ≡ Err fault
-IsFaultOf read OfMemory = ⊥
+IsFaultOf read OfMemory = Unit {0}
 
 -- if an entry was read, the property holds of the entry and of the rest of the piece
 abbrev pub IfRead : Result (Option (RecordedEntry × Bor (List ℕ))) ReadFault → (RecordedEntry → List ℕ → Type 0) → Type 0

@@ -1,10 +1,9 @@
 -- The reading of a recorded history's text: the entries before the first fault, and that fault.
-use Rattle.std.specs.Prelude.{ℕ, ◌+◌, Bool, if◌then◌else◌, nat_eq, nat_le, List, [], ◌∷◌, ◌++◌, Option, Some, None, Result, Ok, Err}
-use Rattle.model_jobs.specs.JobFiles.{fault_at, is_empty, or_fault}
+use Rattle.std.specs.Prelude.{ℕ, ◌+◌, if◌then◌else◌, nat_eq, List, [], ◌∷◌, ◌++◌, Option, Some, None, Result, Ok, Err}
+use Rattle.model_jobs.specs.JobFiles.{or_fault}
 use Rattle.model_memory.specs.Plain.{Entry}
 use Rattle.model_words.specs.Words.{◌>>=◌}
 use Rattle.model_words.specs.declared.faults.FaultKind.{FaultKind}
-use Rattle.model_words.specs.declared.faults.FaultKind.TheVariants.{Cut, LongLine, TooLong}
 use Rattle.model_words.specs.declared.faults.TextFault.{TextFault}
 use Rattle.text_devices.specs.Ends.{end_fault, is_full, too_long}
 use Rattle.text_fields.specs.Lines.{text_lines}

@@ -8,7 +8,9 @@ ghost use Rattle.text_fields.specs.declared.commands.Dialect.{Dialect};
 
 use crate::NEVER;
 use model_words::FaultKind;
+use std::alloc::Global;
 use text_fields::commands::{Dialect, SpeltCommand, command_of};
+use text_fields::faults::LineFault;
 use text_fields::lines::is_word;
 use text_fields::numbers::{number, number32};
 
@@ -28,16 +30,16 @@ pub(crate) struct AskedCall {
 ///
 /// The error is WORD if the worker, the start, the end or the word of the command is missing. Otherwise it is that of
 /// the leftmost fault.
-pub(crate) fn call_asked_of(fields: &[&[u8]]) -> Result<AskedCall, FaultKind>
+pub(crate) fn call_asked_of(alloc: Global, fields: &[&[u8]]) -> Result<AskedCall, LineFault>
     ensures { IsAskedRead (call_asked_in (texts fields.now)) result }
 {
     let [worker, begin, end, word, fields @ ..] = fields else {
-        return Err(FaultKind::Word);
+        return Err(LineFault::Kind(FaultKind::Word));
     };
     let worker = number32(*worker, 0, MAX_WORKER)?;
     let begin = number(*begin, 0, u64::MAX)?;
     let end = end_of(*end, begin)?;
-    let command = object_command_of(*word, fields)?;
+    let command = object_command_of(alloc, *word, fields)?;
     Ok(AskedCall {
         worker,
         begin,
@@ -68,13 +70,17 @@ pub(crate) fn is_pending_mark(field: &[u8]) -> bool
 
 /// Reads the command with this word and these fields. The error is WORD if the command doesn't name one object by its
 /// cell. Otherwise it is that of the leftmost fault.
-fn object_command_of(word: &[u8], fields: &[&[u8]]) -> Result<SpeltCommand, FaultKind>
+fn object_command_of(
+    alloc: Global,
+    word: &[u8],
+    fields: &[&[u8]],
+) -> Result<SpeltCommand, LineFault>
     ensures { IsReadAs Dialect.History (object_command_in word.now (texts fields.now)) result }
 {
     if !is_object_word(word) {
-        return Err(FaultKind::Word);
+        return Err(LineFault::Kind(FaultKind::Word));
     }
-    command_of(Dialect::History, word, fields)
+    command_of(alloc, Dialect::History, word, fields)
 }
 
 /// Whether this is the word of a command that names one object by its cell.

@@ -3,7 +3,7 @@ ghost use Rattle.std.specs.Prelude.{◌≡◌, ◌+◌, ◌<◌, ◌≤◌, ◌�
 ghost use Rattle.model_intervals.specs.Intervals.{Call};
 ghost use Rattle.model_jobs.specs.JobFiles.{fault_at};
 ghost use Rattle.history_reading.specs.CallFiles.{call_head_in, call_in};
-ghost use Rattle.history_reading.specs.CallInputs.{HasCome, HasEnded, HasNext, HasStopped, IsFaultIn, IsFresh, IsTaken, lines_before};
+ghost use Rattle.history_reading.specs.CallInputs.{HasCome, HasEnded, HasNext, HasStopped, IsFaultIn, IsFresh, IsTaken, IsUnreadIn, lines_before};
 ghost use Rattle.history_reading.specs.CallOrders.{IsOrderOf};
 ghost use Rattle.history_reading.specs.CallWords.{IsReadCall, plain_call};
 ghost use Rattle.history_reading.specs.declared.faults.CallError.{CallError};
@@ -13,6 +13,7 @@ use crate::order::CallOrder;
 use crate::{CallError, TimedCall, read_call, read_call_head};
 use std::alloc::{AllocError, Global};
 use text_devices::{LineInput, Source, fault_at};
+use text_fields::faults::LineFault;
 
 /// A history of overlapping calls that is read from a device, after a beginning of the text was read.
 #[derive(Drop)]
@@ -21,6 +22,7 @@ pub struct CallInput {
     lines: LineInput,
     /// What decides whether the next call is in order.
     order: CallOrder,
+    alloc: Global,
 }
 
 impl CallInput {
@@ -31,6 +33,7 @@ impl CallInput {
         Ok(CallInput {
             lines: LineInput::new(alloc)?,
             order: CallOrder::new(alloc),
+            alloc,
         })
     }
 
@@ -96,7 +99,7 @@ impl CallInput {
             head_at(self.lines.line())?;
             return Ok(None);
         }
-        let call = call_at(number, self.lines.line())?;
+        let call = call_at(self.alloc, number, self.lines.line())?;
         if !self.order.add(&call)? {
             return Err(CallError::Order(number));
         }
@@ -115,14 +118,15 @@ fn head_at(line: &[u8]) -> Result<(), CallError>
     }
 }
 
-/// Reads the line of a call. Its line number is `number`.
-fn call_at(number: u32, line: &[u8]) -> Result<TimedCall, CallError>
+/// Reads the line of a call. Its line number is `number`. The error is `Text` or `Memory`.
+fn call_at(alloc: Global, number: u32, line: &[u8]) -> Result<TimedCall, CallError>
     ensures ok { IfOk result (λ call. call_in line.now ≡ Ok (plain_call call)) }
     ensures is_read { IfOk result IsReadCall }
-    ensures fault { IfErr result (IsFaultIn number (call_in line.now)) }
+    ensures fault { IfErr result (IsUnreadIn number (call_in line.now)) }
 {
-    match read_call(line) {
+    match read_call(alloc, line) {
         Ok(call) => Ok(call),
-        Err(kind) => Err(CallError::Text(fault_at(number, kind))),
+        Err(LineFault::Kind(kind)) => Err(CallError::Text(fault_at(number, kind))),
+        Err(LineFault::Memory) => Err(CallError::Memory),
     }
 }

@@ -5,6 +5,7 @@ ghost use Rattle.model_jobs.specs.JobFiles.{is_empty};
 ghost use Rattle.history_reading.specs.CallFiles.{call_head_in, call_in, call_of, effect_in, has_effect, is_pending, pending_call, unknown_reply};
 ghost use Rattle.history_reading.specs.CallWords.{IsCallRead, IsReadCall, plain_call};
 ghost use Rattle.text_fields.specs.Commands.{plain_command};
+ghost use Rattle.text_fields.specs.Fields.{IsUnread};
 ghost use Rattle.text_fields.specs.Lines.{line_fields, texts};
 ghost use Rattle.history_reading.specs.HistoryFiles.{arrow_split};
 ghost use Rattle.text_words.specs.RecordedWords.{IsNarrow, IsReplyRead, plain_reply};
@@ -12,10 +13,12 @@ ghost use Rattle.text_words.specs.RecordedWords.{IsNarrow, IsReplyRead, plain_re
 use crate::TimedCall;
 use crate::asked::{call_asked_of, is_pending_mark};
 use crate::entries::arrow_split;
-use arrayvec::ArrayVec;
+use history_bytes::{MOST_BYTES, RecordedBytes};
 use model_words::{FaultKind, Refusal};
+use std::alloc::Global;
 use text_fields::commands::SpeltCommand;
-use text_fields::lines::{check_bytes, fields_of, fields_up_to, header};
+use text_fields::faults::LineFault;
+use text_fields::lines::{MAX_RECORDED_BYTES, check_bytes, fields_of, fields_up_to, header};
 use text_words::{RecordedEntry, RecordedReply, reply_of};
 
 /// The version of a history of overlapping calls.
@@ -28,14 +31,14 @@ const MAX_CALL_FIELDS: usize = 37;
 ///
 /// The error is the first of these that applies:
 ///
-/// - LONG_LINE, if the line has more than 1,024 bytes.
+/// - LONG_LINE, if the line has more than 16,384 bytes.
 /// - BYTE, if a byte isn't from 20 to 7e (hexadecimal).
 /// - WORD, if the line isn't the word `history`, a space and one field that isn't empty.
 /// - NUMBER, if this field isn't `2`.
 pub fn read_call_head(line: &[u8]) -> Result<(), FaultKind>
     ensures { result ≡ call_head_in line.now }
 {
-    check_bytes(line)?;
+    check_bytes(line, MAX_RECORDED_BYTES)?;
     let fields = fields_of(line)?;
     let [word, fields @ ..] = fields.as_slice() else {
         return Err(FaultKind::Word);
@@ -49,7 +52,7 @@ pub fn read_call_head(line: &[u8]) -> Result<(), FaultKind>
 ///
 /// The error is the first of these that applies:
 ///
-/// - LONG_LINE, if the line has more than 1,024 bytes.
+/// - LONG_LINE, if the line has more than 16,384 bytes.
 /// - BYTE, if a byte isn't from 20 to 7e (hexadecimal).
 /// - WORD, if a field is empty, if there are more than 37 fields, or if no field is `->` and the third
 ///   field isn't `-`.
@@ -57,18 +60,18 @@ pub fn read_call_head(line: &[u8]) -> Result<(), FaultKind>
 /// Otherwise the error is that of the leftmost fault, as in `history 1`. Two faults are added. The error is NUMBER if
 /// END is below BEGIN. It is WORD if the command doesn't name one object by its cell, or if the command can't have the
 /// answer. Only a `new` may be refused. A pending call has no `->` and no answer, which count as fields of its command.
-pub fn read_call(line: &[u8]) -> Result<TimedCall, FaultKind>
+pub fn read_call(alloc: Global, line: &[u8]) -> Result<TimedCall, LineFault>
     ensures ok { IfOk result (λ call. call_in line.now ≡ Ok (plain_call call)) }
-    ensures err { IfErr result (λ kind. call_in line.now ≡ Err kind) }
+    ensures err { IfErr result (IsUnread 4096 (call_in line.now)) }
     ensures read { IfOk result IsReadCall }
 {
-    check_bytes(line)?;
+    check_bytes(line, MAX_RECORDED_BYTES)?;
     let fields = fields_up_to::<MAX_CALL_FIELDS>(line)?;
     if is_pending(fields.as_slice()) {
-        return pending_call_of(fields.as_slice());
+        return pending_call_of(alloc, fields.as_slice());
     }
     let (before, behind) = arrow_split(fields.as_slice()).ok_or(FaultKind::Word)?;
-    call_of(before, behind)
+    call_of(alloc, before, behind)
 }
 
 /// Whether these are the fields of a call that was pending when the recording stopped: the third is `-`.
@@ -82,11 +85,11 @@ fn is_pending(fields: &[&[u8]]) -> bool
 }
 
 /// Reads a call that was pending when the recording stopped. The error is that of the leftmost fault.
-fn pending_call_of(fields: &[&[u8]]) -> Result<TimedCall, FaultKind>
+fn pending_call_of(alloc: Global, fields: &[&[u8]]) -> Result<TimedCall, LineFault>
     ensures { IsCallRead (pending_call (texts fields.now)) result }
 {
-    let asked = call_asked_of(fields)?;
-    let reply = unknown_reply(&asked.command);
+    let asked = call_asked_of(alloc, fields)?;
+    let reply = unknown_reply(alloc, &asked.command);
     Ok(TimedCall {
         begin: asked.begin,
         end: asked.end,
@@ -99,13 +102,13 @@ fn pending_call_of(fields: &[&[u8]]) -> Result<TimedCall, FaultKind>
 }
 
 /// A stand-in for the unknown answer of a pending call.
-fn unknown_reply(command: &SpeltCommand) -> RecordedReply
+fn unknown_reply(alloc: Global, command: &SpeltCommand) -> RecordedReply
     ensures reply { plain_reply result ≡ unknown_reply (plain_command command.now) }
     ensures narrow { IsNarrow result }
 {
     match command {
         SpeltCommand::New(..) => RecordedReply::Refused(Refusal::NoPages),
-        SpeltCommand::Get(..) => RecordedReply::Bytes(ArrayVec::new()),
+        SpeltCommand::Get(..) => RecordedReply::Bytes(RecordedBytes::new(alloc)),
         SpeltCommand::Addr(_) => RecordedReply::At(0),
         _ => RecordedReply::Done,
     }
@@ -113,11 +116,11 @@ fn unknown_reply(command: &SpeltCommand) -> RecordedReply
 
 /// Reads the call whose line has the fields `before` in front of `->` and the fields `behind` after it. The error is
 /// that of the leftmost fault.
-fn call_of(before: &[&[u8]], behind: &[&[u8]]) -> Result<TimedCall, FaultKind>
+fn call_of(alloc: Global, before: &[&[u8]], behind: &[&[u8]]) -> Result<TimedCall, LineFault>
     ensures { IsCallRead (call_of (texts before.now) (texts behind.now)) result }
 {
-    let asked = call_asked_of(before)?;
-    let reply = effect_of(&asked.command, behind)?;
+    let asked = call_asked_of(alloc, before)?;
+    let reply = effect_of(alloc, &asked.command, behind)?;
     Ok(TimedCall {
         begin: asked.begin,
         end: asked.end,
@@ -131,16 +134,20 @@ fn call_of(before: &[&[u8]], behind: &[&[u8]]) -> Result<TimedCall, FaultKind>
 
 /// Reads the answer to a command. The error is WORD if the answer is missing, or if the command can't have this answer.
 /// For a misspelt answer, it is the error of `reply_of`.
-fn effect_of(command: &SpeltCommand, fields: &[&[u8]]) -> Result<RecordedReply, FaultKind>
-    ensures read { IsReplyRead (effect_in (plain_command command.now) (texts fields.now)) result }
+fn effect_of(
+    alloc: Global,
+    command: &SpeltCommand,
+    fields: &[&[u8]],
+) -> Result<RecordedReply, LineFault>
+    ensures read { IsReplyRead 4096 (effect_in (plain_command command.now) (texts fields.now)) result }
     ensures effect { IfOk result (λ reply. has_effect (plain_command command.now) (plain_reply reply) ≡ true) }
 {
     let [word, fields @ ..] = fields else {
-        return Err(FaultKind::Word);
+        return Err(LineFault::Kind(FaultKind::Word));
     };
-    let reply = reply_of(*word, fields)?;
+    let reply = reply_of(alloc, MOST_BYTES, *word, fields)?;
     if !has_effect(command, &reply) {
-        return Err(FaultKind::Word);
+        return Err(LineFault::Kind(FaultKind::Word));
     }
     Ok(reply)
 }

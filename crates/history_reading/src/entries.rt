@@ -1,15 +1,18 @@
 //! Reads the lines of a recorded history: the first line, and the lines of entries.
 ghost use Rattle.std.specs.Prelude.{◌≡◌, IfOk, IfErr, IfSome, IsNone, Ok, Err, Some, None};
-ghost use Rattle.model_words.specs.Commands.{IsInRange};
-ghost use Rattle.text_fields.specs.Commands.{plain_command};
+ghost use Rattle.text_fields.specs.Commands.{IsRecordable, plain_command};
+ghost use Rattle.text_fields.specs.Fields.{IsUnread};
 ghost use Rattle.text_fields.specs.Lines.{texts};
 ghost use Rattle.history_reading.specs.HistoryFiles.{arrow_split, asked_in, entry_in, entry_of, head_in};
 ghost use Rattle.text_words.specs.ReplyWords.{answer_in};
 ghost use Rattle.text_words.specs.RecordedWords.{IsNarrow, IsSized, plain_entry, plain_reply};
 
+use history_bytes::MOST_BYTES;
 use model_words::FaultKind;
+use std::alloc::Global;
 use text_fields::commands::{Dialect, SpeltCommand, command_of};
-use text_fields::lines::{check_bytes, fields_of, header, is_word};
+use text_fields::faults::LineFault;
+use text_fields::lines::{MAX_RECORDED_BYTES, check_bytes, fields_of, header, is_word};
 use text_fields::numbers::number32;
 use text_words::{RecordedEntry, RecordedReply, reply_of};
 
@@ -23,14 +26,14 @@ pub(crate) const MAX_WORKER: u32 = 65_535;
 ///
 /// The error is the first of these that applies:
 ///
-/// - LONG_LINE, if the line has more than 1,024 bytes.
+/// - LONG_LINE, if the line has more than 16,384 bytes.
 /// - BYTE, if a byte isn't from 20 to 7e (hexadecimal).
 /// - WORD, if the line isn't the word `history`, a space and one field that isn't empty.
 /// - NUMBER, if this field isn't `1`.
 pub fn read_head(line: &[u8]) -> Result<(), FaultKind>
     ensures { result ≡ head_in line.now }
 {
-    check_bytes(line)?;
+    check_bytes(line, MAX_RECORDED_BYTES)?;
     let fields = fields_of(line)?;
     let [word, fields @ ..] = fields.as_slice() else {
         return Err(FaultKind::Word);
@@ -43,7 +46,7 @@ pub fn read_head(line: &[u8]) -> Result<(), FaultKind>
 ///
 /// The error is the first of these that applies:
 ///
-/// - LONG_LINE, if the line has more than 1,024 bytes.
+/// - LONG_LINE, if the line has more than 16,384 bytes.
 /// - BYTE, if a byte isn't from 20 to 7e (hexadecimal).
 /// - WORD, if a field is empty, if there are more than 35 fields, or if no field is `->`.
 ///
@@ -54,17 +57,17 @@ pub fn read_head(line: &[u8]) -> Result<(), FaultKind>
 /// - NUMBER, if a number or an address is misspelt or out of its range.
 /// - HEX, if bytes are misspelt or have a wrong length.
 /// - WORD, if another field replaces `at` or the name of a refusal.
-pub fn read_entry(line: &[u8]) -> Result<RecordedEntry, FaultKind>
+pub fn read_entry(alloc: Global, line: &[u8]) -> Result<RecordedEntry, LineFault>
     ensures ok { IfOk result (λ entry. entry_in line.now ≡ Ok (plain_entry entry)) }
-    ensures err { IfErr result (λ kind. entry_in line.now ≡ Err kind) }
-    ensures in_range { IfOk result (λ entry. IsInRange (plain_command entry.command)) }
+    ensures err { IfErr result (IsUnread 4096 (entry_in line.now)) }
+    ensures in_range { IfOk result (λ entry. IsRecordable (plain_command entry.command)) }
     ensures sized { IfOk result (λ entry. IsSized (plain_command entry.command)) }
     ensures narrow { IfOk result (λ entry. IsNarrow entry.reply) }
 {
-    check_bytes(line)?;
+    check_bytes(line, MAX_RECORDED_BYTES)?;
     let fields = fields_of(line)?;
     let (before, behind) = arrow_split(fields.as_slice()).ok_or(FaultKind::Word)?;
-    entry_of(before, behind)
+    entry_of(alloc, before, behind)
 }
 
 /// Returns the fields before the first field `->`, and the fields after it. Returns `None` if no field is `->`.
@@ -79,15 +82,15 @@ pub fn arrow_split<'a, 'b>(fields: &'b [&'a [u8]]) -> Option<(&'b [&'a [u8]], &'
 
 /// Returns the entry whose line has the fields `before` in front of `->` and the fields `behind` after it. The error is
 /// that of the leftmost fault.
-fn entry_of(before: &[&[u8]], behind: &[&[u8]]) -> Result<RecordedEntry, FaultKind>
+fn entry_of(alloc: Global, before: &[&[u8]], behind: &[&[u8]]) -> Result<RecordedEntry, LineFault>
     ensures ok { IfOk result (λ entry. entry_of (texts before.now) (texts behind.now) ≡ Ok (plain_entry entry)) }
-    ensures err { IfErr result (λ kind. entry_of (texts before.now) (texts behind.now) ≡ Err kind) }
-    ensures in_range { IfOk result (λ entry. IsInRange (plain_command entry.command)) }
+    ensures err { IfErr result (IsUnread 4096 (entry_of (texts before.now) (texts behind.now))) }
+    ensures in_range { IfOk result (λ entry. IsRecordable (plain_command entry.command)) }
     ensures sized { IfOk result (λ entry. IsSized (plain_command entry.command)) }
     ensures narrow { IfOk result (λ entry. IsNarrow entry.reply) }
 {
-    let (worker, command) = asked_of(before)?;
-    let reply = answer_of(behind)?;
+    let (worker, command) = asked_of(alloc, before)?;
+    let reply = answer_of(alloc, behind)?;
     Ok(RecordedEntry {
         worker,
         command,
@@ -96,28 +99,28 @@ fn entry_of(before: &[&[u8]], behind: &[&[u8]]) -> Result<RecordedEntry, FaultKi
 }
 
 /// Reads `W COMMAND`: a worker and its command.
-fn asked_of(fields: &[&[u8]]) -> Result<(u32, SpeltCommand), FaultKind>
+fn asked_of(alloc: Global, fields: &[&[u8]]) -> Result<(u32, SpeltCommand), LineFault>
     ensures ok { IfOk result (λ asked. asked_in (texts fields.now) ≡ Ok (asked.0, plain_command asked.1)) }
-    ensures err { IfErr result (λ kind. asked_in (texts fields.now) ≡ Err kind) }
-    ensures in_range { IfOk result (λ asked. IsInRange (plain_command asked.1)) }
+    ensures err { IfErr result (IsUnread 4096 (asked_in (texts fields.now))) }
+    ensures in_range { IfOk result (λ asked. IsRecordable (plain_command asked.1)) }
     ensures sized { IfOk result (λ asked. IsSized (plain_command asked.1)) }
 {
     let [worker, word, fields @ ..] = fields else {
-        return Err(FaultKind::Word);
+        return Err(LineFault::Kind(FaultKind::Word));
     };
     let worker = number32(*worker, 0, MAX_WORKER)?;
-    let command = command_of(Dialect::History, *word, fields)?;
+    let command = command_of(alloc, Dialect::History, *word, fields)?;
     Ok((worker, command))
 }
 
 /// Reads the answer of an entry.
-fn answer_of(fields: &[&[u8]]) -> Result<RecordedReply, FaultKind>
-    ensures ok { IfOk result (λ reply. answer_in (texts fields.now) ≡ Ok (plain_reply reply)) }
-    ensures err { IfErr result (λ kind. answer_in (texts fields.now) ≡ Err kind) }
+fn answer_of(alloc: Global, fields: &[&[u8]]) -> Result<RecordedReply, LineFault>
+    ensures ok { IfOk result (λ reply. answer_in 4096 (texts fields.now) ≡ Ok (plain_reply reply)) }
+    ensures err { IfErr result (IsUnread 4096 (answer_in 4096 (texts fields.now))) }
     ensures narrow { IfOk result IsNarrow }
 {
     let [word, fields @ ..] = fields else {
-        return Err(FaultKind::Word);
+        return Err(LineFault::Kind(FaultKind::Word));
     };
-    reply_of(*word, fields)
+    reply_of(alloc, MOST_BYTES, *word, fields)
 }

@@ -1,9 +1,8 @@
 //! The entries of a history that is read from a device.
 ghost use Rattle.std.specs.Prelude.{◌≡◌, ◌<◌, ◌≤◌, ◌∷◌, ◌++◌, ℕ, List, Option, Err, [], false, true, IfErr, IfOk, IfSome, IsNone, OnOk};
 ghost use Rattle.model_memory.specs.Plain.{Entry};
-ghost use Rattle.model_words.specs.Commands.{IsInRange};
 ghost use Rattle.text_devices.specs.declared.faults.ReplayError.{ReplayError};
-ghost use Rattle.text_fields.specs.Commands.{plain_command};
+ghost use Rattle.text_fields.specs.Commands.{IsRecordable, plain_command};
 ghost use Rattle.history_reading.specs.EntryInputs.{EndsWithFault, HasCome, HasEnded, HasStopped, IsFault, IsFresh, IsNext, IsUsedUp, MayEnd, lines_before};
 ghost use Rattle.text_words.specs.RecordedWords.{IsNarrow, IsSized, plain_entry};
 
@@ -57,7 +56,7 @@ impl HistoryInput {
             (λ next. IfSome next (λ entry.
             HasCome self.new left (I.remaining input.new) (entries ++ plain_entry entry ∷ []))) }
         ensures later { IfOk result (λ next. IfSome next (λ _. lines_before self.old < lines_before self.new)) }
-        ensures in_range { IfOk result (λ next. IfSome next (λ entry. IsInRange (plain_command entry.command))) }
+        ensures in_range { IfOk result (λ next. IfSome next (λ entry. IsRecordable (plain_command entry.command))) }
         ensures sized { IfOk result (λ next. IfSome next (λ entry. IsSized (plain_command entry.command))) }
         ensures narrow { IfOk result (λ next. IfSome next (λ entry. IsNarrow entry.reply)) }
         ensures ended { (left : Option (List ℕ)) (entries : List Entry)

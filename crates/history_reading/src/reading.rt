@@ -1,8 +1,7 @@
 //! The entries of a text that is passed in pieces.
 ghost use Rattle.std.specs.Prelude.{◌≡◌, ◌∷◌, ◌++◌, ◌≤◌, ℕ, List, Ok, Err, Some, None, [], false, length, IfErr, IfOk, IfSome, IsNone, OnOk};
 ghost use Rattle.model_jobs.specs.JobFiles.{fault_at};
-ghost use Rattle.model_words.specs.Commands.{IsInRange};
-ghost use Rattle.text_fields.specs.Commands.{plain_command};
+ghost use Rattle.text_fields.specs.Commands.{IsRecordable, plain_command};
 ghost use Rattle.text_fields.specs.KeptLines.{IsUnended};
 ghost use Rattle.history_reading.specs.Readers.{HasFault, HasRead, HasTaken, IfRead, IsFaultOf, begun_of, lines_of, reading_behind};
 ghost use Rattle.history_reading.specs.Readings.{Head, OfEntry, ends_with, next_in, reading_of};
@@ -13,7 +12,7 @@ use crate::{RecordedEntry, quick_entry, read_entry, read_head};
 use model_words::{FaultKind, TextFault};
 use std::alloc::Global;
 use text_devices::{BegunLine, end_fault, fault_at, long_line};
-use text_fields::faults::ReadFault;
+use text_fields::faults::{LineFault, ReadFault};
 use text_fields::lines::cut;
 
 /// A reader of a recorded history, after it has read a beginning of the text.
@@ -23,6 +22,7 @@ pub struct EntryReader {
     lines: u32,
     /// The beginning of the line whose end hasn't been read yet.
     begun: BegunLine,
+    alloc: Global,
 }
 
 impl EntryReader {
@@ -34,6 +34,7 @@ impl EntryReader {
         EntryReader {
             lines: 0,
             begun: BegunLine::new(alloc),
+            alloc,
         }
     }
 
@@ -50,9 +51,9 @@ impl EntryReader {
     ///
     /// Errors:
     ///
-    /// - `Text`, if a line has a fault. Its kind is LONG_LINE as soon as more than 1,024 bytes of a line have been
+    /// - `Text`, if a line has a fault. Its kind is LONG_LINE as soon as more than 16,384 bytes of a line have been
     ///   read, and TOO_LONG if there are more than 4,294,967,295 lines.
-    /// - `Memory`, if the allocation for an unfinished line failed.
+    /// - `Memory`, if the allocation for an unfinished line or for more than 32 bytes failed.
     ///
     /// After an error, the reader must not be used.
     pub fn next<'a>(
@@ -139,12 +140,12 @@ impl EntryReader {
         ensures fault { IfErr result (HasFault self.old (last.now ++ 10 ∷ [])) }
     {
         if self.begun.is_empty() {
-            let entry = entry_at(self.lines, last)?;
+            let entry = entry_at(self.alloc, self.lines, last)?;
             self.lines += 1;
             return Ok(entry);
         }
         self.keep(last)?;
-        let entry = entry_at(self.lines, self.begun.as_slice())?;
+        let entry = entry_at(self.alloc, self.lines, self.begun.as_slice())?;
         self.begun.clear();
         self.lines += 1;
         Ok(entry)
@@ -191,20 +192,21 @@ fn head_at(line: &[u8]) -> Result<(), ReadFault>
 }
 
 /// Reads the line of an entry, after `lines` earlier lines.
-fn entry_at(lines: u32, line: &[u8]) -> Result<RecordedEntry, ReadFault>
+fn entry_at(alloc: Global, lines: u32, line: &[u8]) -> Result<RecordedEntry, ReadFault>
     requires { 1 ≤ lines }
     ensures few { OnOk result (is_full lines ≡ false) }
     ensures ok { IfOk result (λ entry. next_in lines line.now ≡ Ok (OfEntry (plain_entry entry))) }
     ensures fault { IfErr result (IsFaultOf (next_in lines line.now)) }
-    ensures in_range { IfOk result (λ entry. IsInRange (plain_command entry.command)) }
+    ensures in_range { IfOk result (λ entry. IsRecordable (plain_command entry.command)) }
     ensures sized { IfOk result (λ entry. IsSized (plain_command entry.command)) }
     ensures narrow { IfOk result (λ entry. IsNarrow entry.reply) }
 {
     if lines == u32::MAX {
         return Err(ReadFault::Text(fault_at(0, FaultKind::TooLong)));
     }
-    match read_entry(line) {
+    match read_entry(alloc, line) {
         Ok(entry) => Ok(entry),
-        Err(kind) => Err(ReadFault::Text(fault_at(lines + 1, kind))),
+        Err(LineFault::Kind(kind)) => Err(ReadFault::Text(fault_at(lines + 1, kind))),
+        Err(LineFault::Memory) => Err(ReadFault::Memory),
     }
 }

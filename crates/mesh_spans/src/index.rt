@@ -283,6 +283,14 @@ impl Spans {
         self.extent(span).class()
     }
 
+    /// Returns the number of a span's group.
+    pub fn group_of(&self, span: Span) -> u32
+        requires { span < length self.now.spans }
+        ensures { result ≡ (span_at self.now.spans span).group }
+    {
+        self.extent(span).group()
+    }
+
     /// Returns the address of a slot of a span.
     pub fn address(&self, span: Span, slot: Slot) -> u32
         requires span { span < length self.now.spans }

@@ -82,7 +82,7 @@ not_refused true h = refl
 not_refused false h = absurd (true≢false h)
 
 -- a field of bytes that was read is the spelling of its bytes
-pub bytes_told : (field bytes : List ℕ) → bytes_in field ≡ Ok bytes
+pub bytes_told : (field bytes : List ℕ) → bytes_in 32 field ≡ Ok bytes
     → (field ≡ bytes_text bytes) × (1 ≤ length bytes) × (length bytes ≤ 32) × All (λ b. b ≤ 255) bytes
 bytes_told field bytes h =
     let read = went_on (bytes_from field) _ bytes h in let digits = digits_of_bytes_told field read.value read.is in

@@ -110,7 +110,7 @@ within_from_all most [] all = tt
 within_from_all most (b ∷ bs) all = (omega arith, all 0 0 (omega arith), within_from_all most bs (λ k d h. all (suc k) d (omega (arith, h))))
 
 -- bytes are read as their numbers
-pub bytes_back : (bytes : List ℕ) → 1 ≤ length bytes → length bytes ≤ 32 → All (λ b. b ≤ 255) bytes → bytes_in (bytes_text bytes) ≡ Ok bytes
+pub bytes_back : (bytes : List ℕ) → 1 ≤ length bytes → length bytes ≤ 32 → All (λ b. b ≤ 255) bytes → bytes_in 32 (bytes_text bytes) ≡ Ok bytes
 bytes_back bytes some most all =
     rw (values_of_bytes bytes (within_from_all 255 bytes all), le-leb 1 (length bytes) some, le-leb (length bytes) 32 most) refl
 

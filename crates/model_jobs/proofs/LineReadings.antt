@@ -69,7 +69,7 @@ new_told version fields command h =
 put_told : (version : Version) (fields : List (List ℕ)) (command : Command) → put_in (job_rules version) fields ≡ Ok command → IsCommand version (codes "put") fields command
 put_told version fields command h =
     let f = went_on (three_fields fields) _ command h in let cell = went_on (cell_in f.value.0) _ command f.then in
-    let off = went_on (short_in f.value.1) _ command cell.then in let bytes = went_on (bytes_in f.value.2) _ command off.then in
+    let off = went_on (short_in f.value.1) _ command cell.then in let bytes = went_on (bytes_in 32 f.value.2) _ command off.then in
     let a = number_told 0 255 f.value.0 cell.value cell.is in let b = number_told 0 65535 f.value.1 off.value off.is in
     let c = bytes_told f.value.2 bytes.value bytes.is in
     let is : Put cell.value off.value (record { items = bytes.value }) ≡ command = cc bytes.then in

@@ -67,9 +67,9 @@ bytes_from [] = Ok []
 bytes_from (high ∷ []) = Err Hex
 bytes_from (high ∷ low ∷ digits) = byte_from high low >>= λ byte. bytes_from digits >>= λ bytes. Ok (byte ∷ bytes)
 
--- the bytes in a hexadecimal field: 1 to 32 of them
-abbrev pub bytes_in : List ℕ → Result (List ℕ) FaultKind
-bytes_in field = bytes_from field >>= λ bytes. refuse_if Hex (not (is_between 1 32 (length bytes))) >>= λ _. Ok bytes
+-- the bytes in a hexadecimal field: 1 to `most` of them
+abbrev pub bytes_in : ℕ → List ℕ → Result (List ℕ) FaultKind
+bytes_in most field = bytes_from field >>= λ bytes. refuse_if Hex (not (is_between 1 most (length bytes))) >>= λ _. Ok bytes
 
 -- the byte in a field of two hexadecimal digits
 abbrev pub byte_in : List ℕ → Result ℕ FaultKind
@@ -127,17 +127,18 @@ abbrev pub two_and_more : List (List ℕ) → Result (List ℕ × List ℕ × Li
 two_and_more (a ∷ b ∷ more) = refuse_if Word (nat_lt 32 (length more)) >>= λ _. Ok (a, b, more)
 two_and_more fields = Err Word
 
--- the rules for the commands of a text: how a cell, a length or offset, and an address are read, and whether the
--- command `copy` exists
+-- the rules for the commands of a text: how a cell, a length or offset, and an address are read, the most bytes that a
+-- command stores, loads or copies, and whether the command `copy` exists
 pub record CommandRules : Type 0 where
   pub cell : List ℕ → Result ℕ FaultKind
   pub size : List ℕ → Result ℕ FaultKind
   pub place : List ℕ → Result ℕ FaultKind
+  pub most : ℕ
   pub has_copy : Bool
 
--- the number of bytes that a command loads or copies: 1 to 32
-abbrev pub count_in : List ℕ → Result ℕ FaultKind
-count_in field = number_in 1 32 field
+-- the number of bytes that a command loads or copies: 1 to `most`
+abbrev pub count_in : ℕ → List ℕ → Result ℕ FaultKind
+count_in most field = number_in 1 most field
 
 -- `new CELL LEN WORD`
 abbrev pub new_in : CommandRules → List (List ℕ) → Result Command FaultKind
@@ -147,13 +148,13 @@ new_in rules fields =
 -- `put CELL OFF HEX`
 abbrev pub put_in : CommandRules → List (List ℕ) → Result Command FaultKind
 put_in rules fields =
-    three_fields fields >>= λ f. rules.cell f.0 >>= λ cell. rules.size f.1 >>= λ off. bytes_in f.2 >>= λ bytes.
+    three_fields fields >>= λ f. rules.cell f.0 >>= λ cell. rules.size f.1 >>= λ off. bytes_in rules.most f.2 >>= λ bytes.
     Ok (Put cell off (record { items = bytes }))
 
 -- `get CELL OFF LEN`
 abbrev pub get_in : CommandRules → List (List ℕ) → Result Command FaultKind
 get_in rules fields =
-    three_fields fields >>= λ f. rules.cell f.0 >>= λ cell. rules.size f.1 >>= λ off. count_in f.2 >>= λ len. Ok (Get cell off len)
+    three_fields fields >>= λ f. rules.cell f.0 >>= λ cell. rules.size f.1 >>= λ off. count_in rules.most f.2 >>= λ len. Ok (Get cell off len)
 
 -- `free CELL`
 abbrev pub free_in : CommandRules → List (List ℕ) → Result Command FaultKind
@@ -179,7 +180,7 @@ poke_in rules fields = two_fields fields >>= λ f. rules.place f.0 >>= λ addres
 abbrev pub copy_in : CommandRules → List (List ℕ) → Result Command FaultKind
 copy_in rules fields =
     five_fields fields >>= λ f. rules.cell f.0 >>= λ to. rules.size f.1 >>= λ to_off. rules.cell f.2 >>= λ from.
-    rules.size f.3 >>= λ from_off. count_in f.4 >>= λ len. Ok (CopyBytes to to_off from from_off len)
+    rules.size f.3 >>= λ from_off. count_in rules.most f.4 >>= λ len. Ok (CopyBytes to to_off from from_off len)
 
 -- the command with this word and these fields, under these rules
 abbrev pub ruled_command_in : CommandRules → List ℕ → List (List ℕ) → Result Command FaultKind
@@ -201,7 +202,7 @@ is_second Two = true
 
 -- the rules for the commands of a job file
 abbrev pub job_rules : Version → CommandRules
-job_rules version = record { cell = cell_in; size = short_in; place = address_in; has_copy = is_second version }
+job_rules version = record { cell = cell_in; size = short_in; place = address_in; most = 32; has_copy = is_second version }
 
 -- the command of a job file with this word and these fields
 abbrev pub command_in : Version → List ℕ → List (List ℕ) → Result Command FaultKind

@@ -23,7 +23,7 @@ ByteIsSpelt = (field : List ℕ) (byte : ℕ) → byte_in field ≡ Ok byte → 
 
 -- if a field is read as bytes, the field is their one spelling, and they are 1 to 32 bytes
 abbrev pub BytesAreSpelt : Type 0
-BytesAreSpelt = (field bytes : List ℕ) → bytes_in field ≡ Ok bytes
+BytesAreSpelt = (field bytes : List ℕ) → bytes_in 32 field ≡ Ok bytes
     → (field ≡ bytes_text bytes) × (1 ≤ length bytes) × (length bytes ≤ 32) × All (λ b. b ≤ 255) bytes
 
 -- if a field is read as a class, the field is the one spelling of its size, and the size is in the class table

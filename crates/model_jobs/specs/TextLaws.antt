@@ -20,7 +20,7 @@ ByteReadsBack = (byte : ℕ) → byte ≤ 255 → byte_in (byte_text byte) ≡ O
 
 -- the field of 1 to 32 bytes, each at most 255, is read as the bytes
 abbrev pub BytesReadBack : Type 0
-BytesReadBack = (bytes : List ℕ) → 1 ≤ length bytes → length bytes ≤ 32 → All (λ b. b ≤ 255) bytes → bytes_in (bytes_text bytes) ≡ Ok bytes
+BytesReadBack = (bytes : List ℕ) → 1 ≤ length bytes → length bytes ≤ 32 → All (λ b. b ≤ 255) bytes → bytes_in 32 (bytes_text bytes) ≡ Ok bytes
 
 -- in a worker's section, the line of a valid command adds the command at the end of the script that is being read
 abbrev pub CommandReadsBack : Type 0

@@ -15,7 +15,7 @@ pub enum FaultKind {
     TooLong,
     /// A byte follows the line end after `end`. The reported line is the line after `end`.
     Trailing,
-    /// The line is longer than 1,024 bytes.
+    /// The line is longer than its format allows: 1,024 bytes, or 16,384 bytes in a recorded history.
     LongLine,
     /// The input ends within a line, or before the line `end`.
     Cut,

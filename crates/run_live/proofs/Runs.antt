@@ -238,7 +238,7 @@ kept_rest kept begun (Whole is) = ap told_rest is
 kept_rest [] begun (Long over over') = absurd (omega (arith, over))
 kept_rest (b ∷ bs) [] (Long over over') = absurd (omega (arith, over'))
 kept_rest (b ∷ bs) (c ∷ cs) (Long over over') =
-    ap (λ (kind : FaultKind). ended (fault_text kind)) (rest_too_long (b ∷ bs) over ∙ sym (rest_too_long (c ∷ cs) over'))
+    ap (λ (kind : FaultKind). ended (fault_text kind)) (rest_too_long 1024 (b ∷ bs) over ∙ sym (rest_too_long 1024 (c ∷ cs) over'))
 
 rest_told : (over : Bool) (new : Session) (begun kept : List ℕ) → IsKept kept begun → told_on over new begun [] ≡ rest_on over kept
 rest_told true new begun kept is = refl

@@ -57,7 +57,7 @@ live_of_fields workers (word ∷ fields) = refuse_if Word (list_any is_empty (wo
 
 -- a line of a session of this number of workers, from its bytes without the line end, or the line's fault
 abbrev pub live_line : ℕ → List ℕ → Result LiveLine FaultKind
-live_line workers line = bytes_fit line >>= λ _. live_of_fields workers (line_fields line)
+live_line workers line = bytes_fit 1024 line >>= λ _. live_of_fields workers (line_fields line)
 
 -- the first field is `pair`, so the fields are those of a search
 abbrev pub IsSearch : List (List ℕ) → Type 0

@@ -15,7 +15,7 @@ use Rattle.run_live.specs.declared.sizes.Sizes.{Sizes}
 -- the output for the bytes after the last line end: a fault, or nothing if there are no bytes
 abbrev pub told_rest : List ℕ → List ℕ
 told_rest [] = []
-told_rest (byte ∷ bytes) = ended (fault_text (rest_fault (byte ∷ bytes)))
+told_rest (byte ∷ bytes) = ended (fault_text (rest_fault 1024 (byte ∷ bytes)))
 
 -- whether the line is `end`, which ends a session
 abbrev pub is_end : List ℕ → Bool

@@ -10,7 +10,7 @@ ghost use Rattle.text_job.specs.declared.faults.LineError.{LineError};
 
 use model_words::{Command, FaultKind, Version};
 use std::alloc::Global;
-use text_fields::lines::{check_bytes, fields_of, is_word};
+use text_fields::lines::{MAX_LINE_BYTES, check_bytes, fields_of, is_word};
 use text_fields::numbers::number32;
 use text_job::{LineError, PlanLine, command_of, plan_line};
 
@@ -36,7 +36,7 @@ pub fn read_live_line(alloc: Global, workers: u32, line: &[u8]) -> Result<LiveLi
     ensures err { IfErr result (IsFaultOfStep (live_line workers line.now)) }
     ensures memory { result ≡ Err LineError.Memory → IsSearch (line_fields line.now) }
 {
-    check_bytes(line)?;
+    check_bytes(line, MAX_LINE_BYTES)?;
     let fields = fields_of(line)?;
     line_of_fields(alloc, workers, fields.as_slice())
 }
@@ -54,7 +54,7 @@ fn line_of_fields(alloc: Global, workers: u32, fields: &[&[u8]]) -> Result<LiveL
         return Err(LineError::Kind(FaultKind::Word));
     };
     if is_word(*word, b"run") {
-        let attempt = attempt_of(workers, fields)?;
+        let attempt = attempt_of(alloc, workers, fields)?;
         return Ok(attempt);
     }
     call_of(alloc, workers, *word, fields)
@@ -78,7 +78,7 @@ fn call_of(
 }
 
 /// Reads `run W COMMAND`, from its fields after `run`.
-fn attempt_of(workers: u32, fields: &[&[u8]]) -> Result<LiveLine, FaultKind>
+fn attempt_of(alloc: Global, workers: u32, fields: &[&[u8]]) -> Result<LiveLine, FaultKind>
     requires { 1 ≤ workers }
     ensures value { read_live result ≡ attempt_in workers (texts fields.now) }
     ensures in_range { IfOk result (λ asked. IsValidLive workers (live_of asked)) }
@@ -86,7 +86,8 @@ fn attempt_of(workers: u32, fields: &[&[u8]]) -> Result<LiveLine, FaultKind>
     let [worker, word, fields @ ..] = fields else {
         return Err(FaultKind::Word);
     };
-    attempt_at(workers, *worker, command_of(Version::Two, *word, fields))
+    let command = command_of(alloc, Version::Two, *word, fields);
+    attempt_at(workers, *worker, command)
 }
 
 /// Returns the attempt of a worker at a command. The field `worker` names the worker, and `read` is the result of

@@ -235,6 +235,6 @@ fn write_rest<O: Sink>(alloc: Global, rest: &[u8], output: &mut O) -> Result<(),
         return Ok(());
     }
     let mut text = Vec::new(alloc);
-    add_fault(&mut text, rest_fault(rest))?;
+    add_fault(&mut text, rest_fault(rest, MAX_LINE_BYTES))?;
     write_line(&mut text, output)
 }

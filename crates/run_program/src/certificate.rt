@@ -85,11 +85,32 @@ fn write_certificate_of<O: Sink>(
     ensures failed { IfErr result (HasFailedCertificate false (O.has_failed output.new)) }
 {
     let judgement = judged(alloc, text, args.configurations)?;
-    if let Some(certificate) = certificate_for(alloc, args, &judgement, text)? {
+    write_certificate_for(alloc, args, &judgement, text, output)
+}
+
+/// Writes the certificate of the judgement of a text, or the verdict if there is none. Returns the exit status.
+fn write_certificate_for<O: Sink>(
+    alloc: Global,
+    args: &CheckArgs,
+    judgement: &Judgement,
+    text: &[u8],
+    output: &mut O,
+) -> Result<u8, CheckError>
+    requires output { O.has_failed output.old ≡ false }
+    requires judged { (rest : List ℕ) × HasJudged args.now.configurations (Some text.now) (Some rest) judgement.now }
+    ensures ok { OnOk result (O.has_failed output.new ≡ false) }
+    ensures told { IfOk result
+        (HasToldCertificateOf args.now text.now (O.written output.old) (O.written output.new)) }
+    ensures small { IfOk result (λ status. status ≤ 4) }
+    ensures stopped { IfErr result
+        (HasStoppedCertificateOf args.now text.now (O.written output.old) (O.written output.new)) }
+    ensures failed { IfErr result (HasFailedCertificate false (O.has_failed output.new)) }
+{
+    if let Some(certificate) = certificate_for(alloc, args, judgement, text)? {
         write_lines(output, certificate.as_slice())?;
-        return Ok(status_of_judgement(&judgement));
+        return Ok(status_of_judgement(judgement));
     }
-    write_judgement(alloc, &judgement, args.configurations, output)
+    write_judgement(alloc, judgement, args.configurations, output)
 }
 
 /// Judges the history in a text. The error is `Memory` if an allocation failed, and otherwise a fault of the text.

@@ -22,4 +22,4 @@ long_line lines = if is_full lines then too_long else fault_at (lines + 1) LongL
 abbrev pub end_fault : ℕ → List ℕ → Option TextFault
 end_fault lines rest =
     if is_full lines then (if is_empty rest then None else Some too_long)
-    else (if is_empty rest then (if nat_eq lines 0 then Some (fault_at 1 Cut) else None) else Some (fault_at (lines + 1) (rest_fault rest)))
+    else (if is_empty rest then (if nat_eq lines 0 then Some (fault_at 1 Cut) else None) else Some (fault_at (lines + 1) (rest_fault 16384 rest)))

@@ -42,16 +42,16 @@ pub record HasEnded (left left' : Option (List ℕ)) (lines : List (List ℕ)) :
   pub is : text_lines text ≡ lines ++ [] ∷ []
   pub some : 1 ≤ length lines
 
--- after these lines comes a line of more than 1024 bytes
+-- after these lines comes a line of more than 16384 bytes
 pub record GoesOnLong (all lines : List (List ℕ)) : Type 0 where
   pub long : List ℕ
   pub rest : List (List ℕ)
   pub is : all ≡ lines ++ long ∷ rest
-  pub over : 1024 < length long
+  pub over : 16384 < length long
 
 -- the fault of a text after these lines
 pub data IsLineFault (left' : Option (List ℕ)) (text : List ℕ) (lines : List (List ℕ)) (fault : TextFault) : Type 0 where
-  -- whatever follows the text, its next line has more than 1024 bytes
+  -- whatever follows the text, its next line has more than 16384 bytes
   Long : ((more : List ℕ) → GoesOnLong (text_lines (text ++ more)) lines) → fault ≡ long_line (length lines)
       → IsLineFault left' text lines fault
   -- the text has all the lines that a text may have, and at least one byte after them

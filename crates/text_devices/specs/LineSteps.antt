@@ -45,8 +45,8 @@ abbrev pub EndsWithFault : LineInput → ReplayError → Type 0
 EndsWithFault input (Text fault) = end_fault (lines_of input) (line_of input) ≡ Some fault
 EndsWithFault input _ = ⊥
 
--- why bytes of the line after this number of lines aren't kept: they are more than 1024, or an allocation failed
+-- why bytes of the line after this number of lines aren't kept: they are more than 16384, or an allocation failed
 abbrev pub IsNotKept : ℕ → List ℕ → ReplayError → Type 0
-IsNotKept lines bytes (Text fault) = (fault ≡ long_line lines) × (1024 < length bytes)
+IsNotKept lines bytes (Text fault) = (fault ≡ long_line lines) × (16384 < length bytes)
 IsNotKept lines bytes Memory = Unit {0}
 IsNotKept lines bytes _ = ⊥

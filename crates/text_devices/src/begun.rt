@@ -3,13 +3,13 @@ ghost use Rattle.std.specs.Prelude.{◌≡◌, ◌-◌, ◌≤◌, ◌++◌, ◌
 ghost use Rattle.text_fields.specs.KeptLines.{IsUnended};
 
 use std::alloc::{AllocError, Global};
-use text_fields::lines::MAX_LINE_BYTES;
+use text_fields::lines::MAX_RECORDED_BYTES;
 
-/// At most 1,024 bytes of a line, without its line end.
+/// At most 16,384 bytes of a line of a history, without its line end.
 #[derive(Drop)]
 pub struct BegunLine {
     bytes: Vec<u8>,
-    ghost short: { length bytes.items ≤ 1024 },
+    ghost short: { length bytes.items ≤ 16384 },
     ghost unended: { IsUnended bytes.items },
 }
 
@@ -37,16 +37,16 @@ impl BegunLine {
         self.bytes.as_slice()
     }
 
-    /// Returns how many more bytes the line may have. The maximum of a line is 1,024 bytes.
+    /// Returns how many more bytes the line may have. The maximum of a line is 16,384 bytes.
     pub fn room(&self) -> usize
-        ensures { result ≡ 1024 - length self.now.bytes.items }
+        ensures { result ≡ 16384 - length self.now.bytes.items }
     {
-        MAX_LINE_BYTES - self.bytes.len()
+        MAX_RECORDED_BYTES - self.bytes.len()
     }
 
     /// Adds bytes to the line, which must have room for them.
     pub fn add(&mut self, bytes: &[u8]) -> Result<(), AllocError>
-        requires room { length bytes.now ≤ 1024 - length self.old.bytes.items }
+        requires room { length bytes.now ≤ 16384 - length self.old.bytes.items }
         requires unended { IsUnended bytes.now }
         ensures { OnOk result (self.new.bytes.items ≡ self.old.bytes.items ++ bytes.now) }
     {

@@ -5,7 +5,7 @@
 //! device has failed.
 //!
 //! - `read_some` makes one call. `read_all` and `write_all` make calls until the whole text is read or written.
-//! - A `LineInput` returns the lines of its device one by one, whatever their format. It consists of a `BegunLine`, the
+//! - A `LineInput` returns the lines of a history one by one, whatever their format. It consists of a `BegunLine`, the
 //!   beginning of a line whose end hasn't been read yet, and of `Pending` bytes, the unused bytes of the last read.
 //! - `TextSource` is a text in memory as a source.
 //! - `ReplayError` is the reason for which a run that reads a text from one device and writes to another device stops

@@ -1,4 +1,4 @@
-//! Reads the lines of a text from a device.
+//! Reads the lines of a history from a device.
 ghost use Rattle.std.specs.Prelude.{◌≡◌, ◌+◌, ◌-◌, ◌<◌, ◌≤◌, ◌∷◌, ◌++◌, ℕ, List, Option, None, Some, Err, [], false, true, length, IfErr, IfOk, OnOk, IsTrue};
 ghost use Rattle.model_jobs.specs.JobFiles.{fault_at};
 ghost use Rattle.text_devices.specs.declared.faults.ReplayError.{ReplayError};
@@ -10,9 +10,9 @@ ghost use Rattle.text_devices.specs.LineSteps.{EndsWithFault, IsFaulty, IsNext, 
 use crate::{BegunLine, Pending, ReplayError, Source};
 use model_words::{FaultKind, TextFault};
 use std::alloc::{AllocError, Global};
-use text_fields::lines::{cut, rest_fault};
+use text_fields::lines::{MAX_RECORDED_BYTES, cut, rest_fault};
 
-/// The lines of a text that is read from a device, after a beginning of the text was read.
+/// The lines of a history that is read from a device, after a beginning of the text was read.
 #[derive(Drop)]
 pub struct LineInput {
     /// The number of lines read so far.
@@ -42,10 +42,10 @@ impl LineInput {
         self.lines
     }
 
-    /// Returns the line that was read last, without its line end. The line has at most 1,024 bytes.
+    /// Returns the line that was read last, without its line end. The line has at most 16,384 bytes.
     pub fn line(&self) -> &[u8]
         ensures is { result.now ≡ line_of self.now }
-        ensures short { length result.now ≤ 1024 }
+        ensures short { length result.now ≤ 16384 }
         ensures unended { IsUnended result.now }
     {
         self.line.as_slice()
@@ -55,7 +55,7 @@ impl LineInput {
     ///
     /// Errors:
     ///
-    /// - `Text` with LONG_LINE, as soon as more than 1,024 bytes of the next line have been read.
+    /// - `Text` with LONG_LINE, as soon as more than 16,384 bytes of the next line have been read.
     /// - `Text` with TOO_LONG and line 0, if 4,294,967,295 lines were read and there are more bytes.
     /// - `Text` with CUT, if the text ends within a line, or has no line.
     /// - `Read`, if and only if the input failed.
@@ -157,7 +157,7 @@ pub fn end_fault(lines: u32, rest: &[u8]) -> Option<TextFault>
     if lines == u32::MAX {
         return Some(fault_at(0, FaultKind::TooLong));
     }
-    Some(fault_at(lines + 1, rest_fault(rest)))
+    Some(fault_at(lines + 1, rest_fault(rest, MAX_RECORDED_BYTES)))
 }
 
 /// Returns the fault for a line that has too many bytes. `lines` is the number of lines before it. The fault is

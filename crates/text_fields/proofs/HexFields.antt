@@ -1,6 +1,6 @@
 -- Fields of hexadecimal digits: a number, and bytes of two digits each.
 use Rattle.std.proofs.Common.{◌≡◌, ◌≢◌, ℕ, zero, suc, ◌+◌, ◌*◌, ◌/◌, ◌%◌, ◌^◌, ◌<◌, ◌≤◌, true, false, ◌&&◌, if◌then◌else◌, nat_le, Bool, List, [], ◌∷◌, ◌++◌, Option, Some, None, Result, Ok, Err, length, get_or, drop, ap, refl, sym, ◌∙◌, arith, inl, inr, append-nil, append_assoc, length-append}
-use Rattle.std.specs.Prelude.{◌⊎◌, is_some}
+use Rattle.std.specs.Prelude.{◌⊎◌, is_err, is_some, nat_lt, not}
 use Rattle.std.specs.List.{fold, list_all}
 use Rattle.std.proofs.lemmas.Bool.Decides.{leb_tells}
 use Rattle.std.proofs.lemmas.Bool.{le-leb, lt-leb, and_parts, leb-true, true≢false}
@@ -9,9 +9,9 @@ use Rattle.std.proofs.lemmas.List.Folds.{list_all-append}
 use Rattle.std.proofs.Math.Nat.{pow-suc}
 use Rattle.model_jobs.proofs.Fields.{fewer_digits, value_of_digit}
 use Rattle.model_jobs.proofs.FieldReadings.{digit_told, same_by_test}
-use Rattle.model_jobs.specs.JobFiles.{are_same, hex_value, with_hex, hex_number, byte_from, bytes_from, bytes_in}
+use Rattle.model_jobs.specs.JobFiles.{are_same, hex_value, with_hex, hex_number, byte_from, bytes_from, bytes_in, is_between, is_empty}
 use Rattle.model_jobs.specs.Texts.{hex_digit, hex_from}
-use Rattle.model_words.specs.Words.{◌>>=◌, or_refuse}
+use Rattle.model_words.specs.Words.{◌>>=◌, or_refuse, refuse_if}
 use Rattle.model_words.specs.declared.faults.FaultKind.{FaultKind}
 use Rattle.model_words.specs.declared.faults.FaultKind.TheVariants.{Number, Hex}
 use Rattle.text_fields.specs.Fields.{hex_in, is_hex_digit}
@@ -180,20 +180,79 @@ pub byte_read : (field bytes rest : List ℕ) (byte : ℕ) → bytes_from field 
     → byte_from (get_or rest 0 0) (get_or rest 1 0) ≡ Ok byte → bytes_from field ≡ behind_bytes (bytes ++ byte ∷ []) (bytes_from (drop 2 rest))
 byte_read field bytes rest byte so_far some is = grind (arith, one_byte)
 
--- more bytes than 32 were read
-many_bytes : (field bytes : List ℕ) (read : Result (List ℕ) FaultKind) → bytes_from field ≡ behind_bytes bytes read → 33 ≤ length bytes
-    → ((k : FaultKind) → read ≡ Err k → k ≡ Hex) → bytes_in field ≡ Err Hex
-many_bytes field bytes (Err k) so_far many only = rw (so_far, only k refl) refl
-many_bytes field bytes (Ok later) so_far many only =
-    let long : 33 ≤ length (bytes ++ later) = omega (arith, length-append bytes later, many) in
-    rw (so_far, le-leb 1 (length (bytes ++ later)) (omega (arith, long)), lt-leb (length (bytes ++ later)) 32 (omega (arith, long))) refl
+-- more bytes than `most` were read
+many_bytes : (most : ℕ) (field bytes : List ℕ) (read : Result (List ℕ) FaultKind) → bytes_from field ≡ behind_bytes bytes read → most < length bytes
+    → ((k : FaultKind) → read ≡ Err k → k ≡ Hex) → bytes_in most field ≡ Err Hex
+many_bytes most field bytes (Err k) so_far many only = rw (so_far, only k refl) refl
+many_bytes most field bytes (Ok later) so_far many only =
+    let long : most < length (bytes ++ later) = omega (arith, length-append bytes later, many) in
+    rw (so_far, le-leb 1 (length (bytes ++ later)) (omega (arith, long)), lt-leb (length (bytes ++ later)) most (omega (arith, long))) refl
 
-pub too_many_bytes : (field bytes rest : List ℕ) (byte : ℕ) → bytes_from field ≡ behind_bytes bytes (bytes_from rest) → 2 ≤ length rest
-    → byte_from (get_or rest 0 0) (get_or rest 1 0) ≡ Ok byte → 32 ≤ length bytes → bytes_in field ≡ Err Hex
-too_many_bytes field bytes rest byte so_far some is full =
-    many_bytes field _ _ (byte_read field _ _ _ so_far some is) (omega (arith, length-append bytes (byte ∷ []), full)) (only_hex (drop 2 rest))
+pub too_many_bytes : (most : ℕ) (field bytes rest : List ℕ) (byte : ℕ) → bytes_from field ≡ behind_bytes bytes (bytes_from rest) → 2 ≤ length rest
+    → byte_from (get_or rest 0 0) (get_or rest 1 0) ≡ Ok byte → most ≤ length bytes → bytes_in most field ≡ Err Hex
+too_many_bytes most field bytes rest byte so_far some is full =
+    many_bytes most field _ _ (byte_read field _ _ _ so_far some is) (omega (arith, length-append bytes (byte ∷ []), full)) (only_hex (drop 2 rest))
 
 -- all bytes of a field were read
-pub bytes_read : (field bytes : List ℕ) → bytes_from field ≡ behind_bytes bytes (bytes_from []) → 1 ≤ length bytes → length bytes ≤ 32
-    → bytes_in field ≡ Ok bytes
-bytes_read field bytes so_far some few = rw (so_far ∙ ap Ok (append-nil bytes), le-leb 1 (length bytes) some, le-leb (length bytes) 32 few) refl
+pub bytes_read : (most : ℕ) (field bytes : List ℕ) → bytes_from field ≡ behind_bytes bytes (bytes_from []) → 1 ≤ length bytes → length bytes ≤ most
+    → bytes_in most field ≡ Ok bytes
+bytes_read most field bytes so_far some few = rw (so_far ∙ ap Ok (append-nil bytes), le-leb 1 (length bytes) some, le-leb (length bytes) most few) refl
+
+-- the front of a field was read as so many bytes, at most `most`
+pub record HasFront (field rest : List ℕ) (count most : ℕ) : Type 0 where
+  pub bytes : List ℕ
+  pub read : bytes_from field ≡ behind_bytes bytes (bytes_from rest)
+  pub long : length bytes ≡ count
+  pub few : count ≤ most
+
+none_behind : (read : Result (List ℕ) FaultKind) → read ≡ behind_bytes [] read
+none_behind (Err e) = refl
+none_behind (Ok bytes) = refl
+
+-- nothing was read yet
+pub no_front : (field : List ℕ) (most : ℕ) → HasFront field field 0 most
+no_front field most = record { bytes = []; read = none_behind (bytes_from field); long = refl; few = omega arith }
+
+-- one more byte was read
+pub longer_front : (field rest : List ℕ) (count most byte : ℕ) → HasFront field rest count most → 2 ≤ length rest
+    → byte_from (get_or rest 0 0) (get_or rest 1 0) ≡ Ok byte → count < most → HasFront field (drop 2 rest) (count + 1) most
+longer_front field rest count most byte front some is below = record {
+  bytes = front.bytes ++ byte ∷ [];
+  read = byte_read field front.bytes rest byte front.read some is;
+  long = omega (arith, length-append front.bytes (byte ∷ []), front.long);
+  few = omega (arith, below);
+}
+
+-- two bytes that aren't digits come next
+pub front_of_no_digits : (field rest : List ℕ) (count most : ℕ) (kind : FaultKind) → HasFront field rest count most → 2 ≤ length rest
+    → byte_from (get_or rest 0 0) (get_or rest 1 0) ≡ Err kind → is_err (bytes_in most field) ≡ true
+front_of_no_digits field [] count most kind front some is = absurd (omega (arith, some))
+front_of_no_digits field (high ∷ []) count most kind front some is = absurd (omega (arith, some))
+front_of_no_digits field (high ∷ low ∷ digits) count most kind front some is =
+    let none : bytes_from (high ∷ low ∷ digits) ≡ Err kind = ap (λ (byte : Result ℕ FaultKind). byte >>= λ b. bytes_from digits >>= λ bytes. Ok (b ∷ bytes)) is in
+    let all : bytes_from field ≡ Err kind = front.read ∙ ap (behind_bytes front.bytes) none in
+    ap (λ (read : Result (List ℕ) FaultKind). is_err (read >>= λ bytes. refuse_if Hex (not (is_between 1 most (length bytes))) >>= λ _. Ok bytes)) all
+
+-- one byte too many comes next
+pub front_of_too_many : (field rest : List ℕ) (count most byte : ℕ) → HasFront field rest count most → 2 ≤ length rest
+    → byte_from (get_or rest 0 0) (get_or rest 1 0) ≡ Ok byte → most ≤ count → is_err (bytes_in most field) ≡ true
+front_of_too_many field rest count most byte front some is full =
+    ap (λ (read : Result (List ℕ) FaultKind). is_err read)
+    (too_many_bytes most field front.bytes rest byte front.read some is (omega (arith, front.long, full)))
+
+no_bytes : (bytes : List ℕ) → length bytes ≡ 0 → bytes ≡ []
+no_bytes [] none = refl
+no_bytes (b ∷ bytes) none = absurd (omega (arith, none))
+
+-- the whole field was read, or all but one digit
+pub front_of_all : (field rest : List ℕ) (count most : ℕ) → HasFront field rest count most → length rest < 2
+    → (is_empty rest && nat_lt 0 count) ≡ not (is_err (bytes_in most field))
+front_of_all field [] zero most front short =
+    let none = no_bytes front.bytes front.long in
+    let all : bytes_from field ≡ Ok [] = front.read ∙ ap (λ (bytes : List ℕ). behind_bytes bytes (Ok [])) none in
+    ap (λ (read : Result (List ℕ) FaultKind). not (is_err (read >>= λ bytes. refuse_if Hex (not (is_between 1 most (length bytes))) >>= λ _. Ok bytes))) (sym all)
+front_of_all field [] (suc count) most front short =
+    rw (le-leb 1 (suc count) (omega arith)) (ap (λ (read : Result (List ℕ) FaultKind). not (is_err read)) (sym (bytes_read most field front.bytes front.read (omega (arith, front.long)) (omega (arith, front.long, front.few)))))
+front_of_all field (high ∷ []) count most front short =
+    ap (λ (read : Result (List ℕ) FaultKind). not (is_err (read >>= λ bytes. refuse_if Hex (not (is_between 1 most (length bytes))) >>= λ _. Ok bytes))) (sym front.read)
+front_of_all field (high ∷ low ∷ digits) count most front short = absurd (omega (arith, short))

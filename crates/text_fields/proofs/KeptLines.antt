@@ -1,5 +1,5 @@
 -- What is kept of a line tells of the line.
-use Rattle.std.proofs.Common.{◌≡◌, ℕ, ◌<◌, ◌∙◌, ap, append-nil, arith, false, inl, inr, length, length-take, nat_eq, refl, sym, List, [], ◌∷◌, ◌++◌, take}
+use Rattle.std.proofs.Common.{◌≡◌, ℕ, ◌<◌, ◌∙◌, ap, append-nil, arith, false, inl, inr, length, length-take, nat_eq, refl, suc, sym, List, [], ◌∷◌, ◌++◌, take}
 use Rattle.std.proofs.lemmas.Bool.{le-leb}
 use Rattle.std.proofs.lemmas.Bool.Decides.{eqb_tells, leb_tells}
 use Rattle.std.proofs.lemmas.List.{take_all}
@@ -32,8 +32,8 @@ pub both_unended : (begun bytes : List ℕ) → IsUnended begun → IsUnended by
 both_unended begun bytes first second = All-append (λ b. nat_eq b 10 ≡ false) begun bytes first second
 
 -- bytes that are too many for a line are told so behind the last line end
-pub rest_too_long : (rest : List ℕ) → 1024 < length rest → rest_fault rest ≡ LongLine
-rest_too_long rest over = rw (le-leb 1025 (length rest) (omega (arith, over))) refl
+pub rest_too_long : (most : ℕ) (rest : List ℕ) → most < length rest → rest_fault most rest ≡ LongLine
+rest_too_long most rest over = rw (le-leb (suc most) (length rest) (omega (arith, over))) refl
 
 -- the first line of a text has no line end
 pub unended : (line more : List ℕ) (lines : List (List ℕ)) → text_lines (line ++ more) ≡ line ∷ lines → IsUnended line

@@ -8,3 +8,4 @@ pub mod LineSteps
 pub mod QuickFields
 pub mod Sames
 pub mod Splits
+pub mod Unread

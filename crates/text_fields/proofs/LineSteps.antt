@@ -56,7 +56,7 @@ first_fault false true next kind is = cc
 first_fault false false next kind is = cc
 
 -- a line whose bytes have a fault
-pub bytes_fault : (text line rest : List ℕ) (kind : FaultKind) → text_lines text ≡ line ∷ text_lines rest → bytes_fit line ≡ Err kind → IsFaultyLine text kind
+pub bytes_fault : (text line rest : List ℕ) (kind : FaultKind) → text_lines text ≡ line ∷ text_lines rest → bytes_fit 1024 line ≡ Err kind → IsFaultyLine text kind
 bytes_fault text line rest kind is refused number draft more going =
     line_step_more text _ rest _ _ more is going ∙ ap (after_line number (text_lines (rest ++ more))) (first_fault _ _ _ _ refused)
 
@@ -65,9 +65,9 @@ not_above : (least n : ℕ) → nat_lt least n ≡ false → n ≤ least
 not_above least n h = elim (leb_tells (suc least) n) [ inl over ↦ absurd (true≢false (sym over.0 ∙ h)) | inr is ↦ omega (arith, is.1) ]
 
 -- a line whose bytes have none
-pub short_and_printable : (line : List ℕ) → bytes_fit line ≡ Ok tt → (length line ≤ 1024) × (list_all is_printable line ≡ true)
+pub short_and_printable : (line : List ℕ) → bytes_fit 1024 line ≡ Ok tt → (length line ≤ 1024) × (list_all is_printable line ≡ true)
 short_and_printable line fit = grind arith
 
 -- a line that is short enough and printable
-pub bytes_taken : (line : List ℕ) → length line ≤ 1024 → list_all is_printable line ≡ true → bytes_fit line ≡ Ok tt
-bytes_taken line short printable = rw (lt-leb 1025 (length line) (omega (arith, short)), printable) refl
+pub bytes_taken : (most : ℕ) (line : List ℕ) → length line ≤ most → list_all is_printable line ≡ true → bytes_fit most line ≡ Ok tt
+bytes_taken most line short printable = rw (lt-leb (suc most) (length line) (omega (arith, short)), printable) refl

@@ -14,6 +14,6 @@ pub record IsKept (kept begun : List ℕ) : Type 0 where
   pub front : kept ≡ take 1025 begun
   pub unended : IsUnended begun
 
--- the fault of the bytes after the last line end: `LongLine` if there are more than 1024, otherwise `Cut`
-abbrev pub rest_fault : List ℕ → FaultKind
-rest_fault rest = if nat_lt 1024 (length rest) then LongLine else Cut
+-- the fault of the bytes after the last line end: `LongLine` if there are more than `most`, otherwise `Cut`
+abbrev pub rest_fault : ℕ → List ℕ → FaultKind
+rest_fault most rest = if nat_lt most (length rest) then LongLine else Cut

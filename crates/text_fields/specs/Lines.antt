@@ -23,10 +23,10 @@ line_fields line = slice_split (λ b. nat_eq b 32) line
 abbrev pub is_field_byte : ℕ → Bool
 is_field_byte byte = is_between 33 126 byte
 
--- the line, without its end, has at most 1024 bytes, and each byte is allowed in a line. Otherwise the fault is
+-- the line, without its end, has at most `most` bytes, and each byte is allowed in a line. Otherwise the fault is
 -- `LongLine` or `Byte`, in this order
-abbrev pub bytes_fit : List ℕ → Result (Unit {0}) FaultKind
-bytes_fit line = refuse_if LongLine (nat_lt 1024 (length line)) >>= λ _. refuse_if Byte (not (list_all is_printable line))
+abbrev pub bytes_fit : ℕ → List ℕ → Result (Unit {0}) FaultKind
+bytes_fit most line = refuse_if LongLine (nat_lt most (length line)) >>= λ _. refuse_if Byte (not (list_all is_printable line))
 
 -- the next line of the text has at most 1024 bytes, all printable, and these fields. `rest` is the text after the line
 pub record IsSplit (text : List ℕ) (fields : List (List ℕ)) (rest : List ℕ) : Type 0 where

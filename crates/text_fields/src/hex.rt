@@ -1,12 +1,14 @@
 //! Fields of hexadecimal digits in lower case.
-ghost use Rattle.std.specs.Prelude.{◌≡◌, ◌<◌, ◌≤◌, ◌^◌, ◌↔◌, ℕ, suc, Ok, Err, IfSome, IfOk, IfErr, IsTrue, length, slice_index};
+ghost use Rattle.std.specs.Prelude.{◌≡◌, ◌<◌, ◌≤◌, ◌^◌, ◌↔◌, ℕ, suc, Ok, Err, IfSome, IfOk, IfErr, IsTrue, is_err, length, not, slice_index};
 ghost use Rattle.arrayvec.specs.ArrayVec.{array_vec_len};
 ghost use Rattle.model_jobs.specs.JobFiles.{address_in, byte_from, byte_in, bytes_in, hex_value};
-ghost use Rattle.text_fields.specs.Fields.{hex_in};
+ghost use Rattle.text_fields.specs.Fields.{IsUnread, hex_in};
 
 use crate::bases::Base;
-use arrayvec::ArrayVec;
-use model_words::{FaultKind, MAX_BYTES};
+use crate::faults::LineFault;
+use history_bytes::RecordedBytes;
+use model_words::FaultKind;
+use std::alloc::Global;
 
 /// The greatest address of a job: the address of the last byte of the last virtual page.
 const MAX_ADDRESS: u64 = 0xfff_ffff;
@@ -61,29 +63,51 @@ pub fn byte(field: &[u8]) -> Result<u8, FaultKind>
     }
 }
 
-/// Reads a field of 1 to 32 bytes, each spelt by two hexadecimal digits in lower case. The error is HEX for any other
-/// field.
-pub fn bytes(field: &[u8]) -> Result<ArrayVec<u8, MAX_BYTES>, FaultKind>
-    ensures ok { IfOk result (λ bytes. bytes_in field.now ≡ Ok bytes.items) }
-    ensures err { IfErr result (λ kind. bytes_in field.now ≡ Err kind) }
+/// Reads a field of 1 to `most` bytes, each spelt by two hexadecimal digits in lower case. The fault is HEX for any
+/// other field. An allocation can fail only if `most` is above 32.
+pub fn bytes(alloc: Global, field: &[u8], most: usize) -> Result<RecordedBytes, LineFault>
+    requires { most ≤ 4096 }
+    ensures ok { IfOk result (λ bytes. bytes_in most field.now ≡ Ok bytes.items) }
+    ensures err { IfErr result (λ fault. IsUnread most (bytes_in most field.now) fault) }
     ensures some { IfOk result (λ bytes. 1 ≤ array_vec_len bytes) }
+    ensures most { IfOk result (λ bytes. array_vec_len bytes ≤ most) }
 {
-    let mut bytes = ArrayVec::new();
+    let mut bytes = RecordedBytes::new(alloc);
     let mut rest = field;
     while let [high, low, behind @ ..] = rest {
         let byte = byte_of(*high, *low)?;
-        if bytes.try_push(byte).is_err() {
-            return Err(FaultKind::Hex);
+        if bytes.len() >= most {
+            return Err(LineFault::Kind(FaultKind::Hex));
         }
+        bytes.push(byte)?;
         rest = behind;
     }
     if !rest.is_empty() {
-        return Err(FaultKind::Hex);
+        return Err(LineFault::Kind(FaultKind::Hex));
     }
     if bytes.is_empty() {
-        return Err(FaultKind::Hex);
+        return Err(LineFault::Kind(FaultKind::Hex));
     }
     Ok(bytes)
+}
+
+/// Whether a field spells 1 to `most` bytes, each by two hexadecimal digits in lower case.
+pub fn spells_bytes(field: &[u8], most: usize) -> bool
+    ensures { result ≡ not (is_err (bytes_in most field.now)) }
+{
+    let mut count = 0;
+    let mut rest = field;
+    while let [high, low, behind @ ..] = rest {
+        let Ok(_byte) = byte_of(*high, *low) else {
+            return false;
+        };
+        if count >= most {
+            return false;
+        }
+        count += 1;
+        rest = behind;
+    }
+    rest.is_empty() && count > 0
 }
 
 /// Reads a hexadecimal address from 0 to fffffff, without a leading zero. The error is NUMBER if the field isn't such

@@ -9,8 +9,11 @@ use crate::numbers::number32;
 use arrayvec::ArrayVec;
 use model_words::FaultKind;
 
-/// The greatest number of bytes of a line, without the line end.
+/// The greatest number of bytes of a line of a job or a session, without the line end.
 pub const MAX_LINE_BYTES: usize = 1024;
+
+/// The greatest number of bytes of a line of a history, without the line end. A line with 4,096 bytes in HEX fits.
+pub const MAX_RECORDED_BYTES: usize = 16_384;
 
 /// The greatest number of fields of a line.
 const MAX_FIELDS: usize = 35;
@@ -43,12 +46,12 @@ fn is_printable(byte: u8) -> bool
     (b' '..=b'~').contains(&byte)
 }
 
-/// Checks the bytes of a line, without the line end. The error is LONG_LINE if there are more than 1,024 bytes.
+/// Checks the bytes of a line, without the line end. The error is LONG_LINE if there are more than `most` bytes.
 /// Otherwise it is BYTE if some byte isn't from 0x20 to 0x7e.
-pub fn check_bytes(line: &[u8]) -> Result<(), FaultKind>
-    ensures { result ≡ bytes_fit line.now }
+pub fn check_bytes(line: &[u8], most: usize) -> Result<(), FaultKind>
+    ensures { result ≡ bytes_fit most line.now }
 {
-    if line.len() > MAX_LINE_BYTES {
+    if line.len() > most {
         return Err(FaultKind::LongLine);
     }
     if !line.iter().all(|byte| is_printable(*byte)) {
@@ -58,11 +61,11 @@ pub fn check_bytes(line: &[u8]) -> Result<(), FaultKind>
 }
 
 /// Returns the fault of a text that ends with these bytes after its last line end: LONG_LINE if there are more than
-/// 1,024 bytes, and CUT otherwise.
-pub fn rest_fault(rest: &[u8]) -> FaultKind
-    ensures { result ≡ rest_fault rest.now }
+/// `most` bytes, and CUT otherwise.
+pub fn rest_fault(rest: &[u8], most: usize) -> FaultKind
+    ensures { result ≡ rest_fault most rest.now }
 {
-    if rest.len() > MAX_LINE_BYTES {
+    if rest.len() > most {
         FaultKind::LongLine
     } else {
         FaultKind::Cut
@@ -90,7 +93,7 @@ pub fn next_line(text: &[u8]) -> Result<Option<(&[u8], &[u8])>, FaultKind>
             Ok(None)
         };
     };
-    check_bytes(line)?;
+    check_bytes(line, MAX_LINE_BYTES)?;
     Ok(Some((line, rest)))
 }
 

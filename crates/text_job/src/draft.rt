@@ -266,7 +266,7 @@ impl Draft {
             close_script(self.alloc, &mut self.script, &mut self.scripts)?;
             self.section = Section::Plan;
         } else {
-            push_line(&mut self.script, self.version, word, fields)?;
+            push_line(self.alloc, &mut self.script, self.version, word, fields)?;
         }
         Ok(())
     }

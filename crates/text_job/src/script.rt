@@ -111,6 +111,7 @@ impl Script {
 
 /// Appends the command of a line with this word and these fields. The error is a fault of the line, or `Memory`.
 pub(crate) fn push_line(
+    alloc: Global,
     script: &mut Script,
     version: Version,
     word: &[u8],
@@ -119,7 +120,7 @@ pub(crate) fn push_line(
     ensures ok { OnOk result (with_line script.old version word.now (texts fields.now) ≡ Ok script.new) }
     ensures err { IfErr result (IsFaultOfStep (command_in version word.now (texts fields.now))) }
 {
-    let command = command_of(version, word, fields)?;
+    let command = command_of(alloc, version, word, fields)?;
     script.push(&command)?;
     Ok(())
 }

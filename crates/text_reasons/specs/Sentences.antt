@@ -29,7 +29,8 @@ abbrev pub general_text : TextKind → FaultKind → List ℕ
 general_text Job TooLong = codes "more than 1,048,576 bytes"
 general_text History TooLong = codes "more than 4,294,967,295 lines"
 general_text wanted Trailing = codes "a byte after 'end', the last line of a job"
-general_text wanted LongLine = codes "more than 1,024 bytes in a line"
+general_text Job LongLine = codes "more than 1,024 bytes in a line"
+general_text History LongLine = codes "more than 16,384 bytes in a line"
 general_text wanted CutKind = codes "the text ends too early"
 general_text wanted ByteKind = codes "a byte outside 20 to 7e"
 general_text wanted WordKind = codes "an empty field, a wrong number of fields, or a word that isn't allowed here"
@@ -128,7 +129,7 @@ abbrev pub hex_text : HexReason → List ℕ
 hex_text (NoDigit byte) = codes ": '" ++ escaped_text byte ++ codes "' is no hexadecimal digit"
 hex_text UpperCase = codes ": hexadecimal digits are in lower case"
 hex_text Odd = codes ": an odd number of digits"
-hex_text Long = codes ": more than 32 bytes"
+hex_text (Long most) = codes ": more than " ++ decimal most ++ codes " bytes"
 hex_text OneByte = codes ": a byte has two digits"
 
 -- the text of a reason, without a line end

@@ -22,7 +22,7 @@ IsRefused (Numbers least most) text = IsNoNumber least most text
 IsRefused Class text = Unit {0}
 IsRefused Address text = is_err (address_in text) ≡ true
 IsRefused WideAddress text = is_err (hex_in 11 281474976710655 text) ≡ true
-IsRefused Bytes text = is_err (bytes_in text) ≡ true
+IsRefused (Bytes most) text = is_err (bytes_in most text) ≡ true
 IsRefused Byte text = is_err (byte_in text) ≡ true
 IsRefused Word text = ⊥
 
@@ -42,7 +42,7 @@ abbrev pub IsTrueOfHex : HexReason → List ℕ → Type 0
 IsTrueOfHex (NoDigit byte) text = Unit {0}
 IsTrueOfHex UpperHex text = Unit {0}
 IsTrueOfHex Odd text = length text % 2 ≡ 1
-IsTrueOfHex Long text = is_err (bytes_in text) ≡ true
+IsTrueOfHex (Long most) text = is_err (bytes_in most text) ≡ true
 IsTrueOfHex OneByte text = is_err (byte_in text) ≡ true
 
 -- the reason is true of the text that it is about

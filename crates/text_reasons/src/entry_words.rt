@@ -4,7 +4,7 @@ use crate::job_words::{Worded, vocabulary_reason};
 use crate::{EntryKind, Field, FieldKind, Form, Vocabulary, WordReason};
 use arrayvec::ArrayVec;
 use text_fields::lines::{fields_up_to, is_word};
-use text_words::reply_of;
+use text_words::refusal_named;
 
 /// The greatest number of fields of a line.
 pub(crate) const MOST_FIELDS: usize = 37;
@@ -127,7 +127,7 @@ fn is_other_word(field: &Field, spelt: &[u8]) -> bool {
 /// Returns that a refusal has another name. Returns `None` if the answer is no refusal or is read without a fault.
 fn name_reason<'a>(answer: &Part<'_, 'a>) -> Option<WordReason<'a>> {
     match answer.fields {
-        [number, name] if reply_of(answer.word, answer.fields).is_err() => {
+        [number, name] if refusal_named(*number, *name).is_err() => {
             Some(WordReason::Name(*name, *number))
         }
         _ => None,

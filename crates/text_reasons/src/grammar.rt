@@ -14,6 +14,8 @@ pub enum FieldKind {
     Cell,
     /// A length or an offset: up to 65535 in a job, up to 2^47 in a history.
     Size,
+    /// A number of bytes: 1 to 32 in a job, up to 4096 in a history.
+    Count,
     /// The number of a worker of the job.
     Worker,
     /// The number of the worker whose script is next.
@@ -26,7 +28,7 @@ pub enum FieldKind {
     Class,
     /// 0 to 32 fields, each a number of 64 bits. No field is behind them.
     Words,
-    /// 1 to 32 bytes.
+    /// Bytes: 1 to 32 in a job, up to 4096 in a history.
     Bytes,
     /// One byte.
     Byte,
@@ -54,7 +56,7 @@ const LEN: Field = Field("LEN", FieldKind::Size);
 
 const OFFSET: Field = Field("OFFSET", FieldKind::Size);
 
-const COUNT: Field = Field("LEN", FieldKind::Number(1, 32));
+const COUNT: Field = Field("LEN", FieldKind::Count);
 
 const WORD: Field = Field("WORD", FieldKind::Number(0, u64::MAX));
 

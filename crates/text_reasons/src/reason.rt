@@ -118,8 +118,8 @@ pub enum HexReason {
     UpperCase,
     /// Their number of digits is odd.
     Odd,
-    /// They are more than 32 bytes.
-    Long,
+    /// They are more than this number of bytes, the most that the field may have.
+    Long(u64),
     /// They aren't the two digits of a single byte.
     OneByte,
 }

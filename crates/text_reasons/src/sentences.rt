@@ -70,7 +70,7 @@ fn general(wanted: TextKind, kind: FaultKind) -> &'static str
     match kind {
         FaultKind::TooLong => too_long(wanted),
         FaultKind::Trailing => "a byte after 'end', the last line of a job",
-        FaultKind::LongLine => "more than 1,024 bytes in a line",
+        FaultKind::LongLine => long_line(wanted),
         FaultKind::Cut => "the text ends too early",
         FaultKind::Byte => "a byte outside 20 to 7e",
         FaultKind::Word => {
@@ -78,6 +78,16 @@ fn general(wanted: TextKind, kind: FaultKind) -> &'static str
         }
         FaultKind::Number => "a number that is spelt wrongly or out of range",
         FaultKind::Hex => "bytes that are spelt wrongly or of a wrong length",
+    }
+}
+
+/// That a line is too long.
+fn long_line(wanted: TextKind) -> &'static str
+    ensures { result.now ≡ general_text wanted FaultKind.LongLine }
+{
+    match wanted {
+        TextKind::Job => "more than 1,024 bytes in a line",
+        TextKind::History => "more than 16,384 bytes in a line",
     }
 }
 
@@ -399,7 +409,7 @@ fn add_hex_reason(text: &mut Vec<u8>, reason: HexReason) -> Result<(), AllocErro
         }
         HexReason::UpperCase => add(text, ": hexadecimal digits are in lower case"),
         HexReason::Odd => add(text, ": an odd number of digits"),
-        HexReason::Long => add(text, ": more than 32 bytes"),
+        HexReason::Long(most) => add_numbered(text, ": more than ", most, " bytes"),
         HexReason::OneByte => add(text, ": a byte has two digits"),
     }
 }

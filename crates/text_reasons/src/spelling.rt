@@ -5,10 +5,12 @@ ghost use Rattle.text_reasons.specs.Truths.{IsNoNumber, IsRefused, IsSo, IsTrueO
 
 use crate::places::{Place, Section};
 use crate::{Field, FieldKind, HexReason, NumberReason, Reason, Spelt};
+use history_bytes::MOST_BYTES;
 use mesh_class::class_of;
+use model_words::MAX_BYTES;
 use text_fields::bases::Base;
 use text_fields::commands::MAX_RECORDED_LENGTH;
-use text_fields::hex::{address, byte, bytes, digit, has_leading_zero, wide_address};
+use text_fields::hex::{address, byte, digit, has_leading_zero, spells_bytes, wide_address};
 use text_fields::numbers::number;
 
 /// The greatest cell of a job.
@@ -19,6 +21,12 @@ const MAX_WIDE_CELL: u64 = 4_294_967_295;
 
 /// The greatest length and offset of a job.
 const MAX_LENGTH: u64 = 65_535;
+
+/// The greatest number of bytes that a command of a job stores, loads or copies.
+const MAX_COUNT: u64 = MAX_BYTES as u64;
+
+/// The greatest number of bytes that a command of a history stores, loads or copies.
+const MAX_WIDE_COUNT: u64 = MOST_BYTES as u64;
 
 /// What a field of one line may spell.
 #[derive(Clone, Copy)]
@@ -31,8 +39,8 @@ pub(crate) enum Range {
     Address,
     /// An address of a history.
     WideAddress,
-    /// 1 to 32 bytes.
-    Bytes,
+    /// 1 to this number of bytes.
+    Bytes(u64),
     /// One byte.
     Byte,
     /// A word, which has no fault NUMBER or HEX.
@@ -90,13 +98,19 @@ impl FieldKind {
                 Range::Numbers(0, MAX_LENGTH),
                 Range::Numbers(0, MAX_RECORDED_LENGTH),
             ),
+            FieldKind::Count => limits.choose(
+                Range::Numbers(1, MAX_COUNT),
+                Range::Numbers(1, MAX_WIDE_COUNT),
+            ),
             FieldKind::Worker => Range::Numbers(0, limits.last_worker),
             FieldKind::NextWorker => Range::Numbers(limits.next_worker, limits.next_worker),
             FieldKind::End => Range::Numbers(limits.begin, u64::MAX),
             FieldKind::Address => limits.choose(Range::Address, Range::WideAddress),
             FieldKind::Class => Range::Class,
             FieldKind::Words => Range::Numbers(0, u64::MAX),
-            FieldKind::Bytes => Range::Bytes,
+            FieldKind::Bytes => {
+                limits.choose(Range::Bytes(MAX_COUNT), Range::Bytes(MAX_WIDE_COUNT))
+            }
             FieldKind::Byte => Range::Byte,
             FieldKind::Literal | FieldKind::Refusal => Range::Word,
         }
@@ -113,7 +127,7 @@ impl Range {
             Range::Class => is_class(text),
             Range::Address => address(text).is_ok(),
             Range::WideAddress => wide_address(text).is_ok(),
-            Range::Bytes => bytes(text).is_ok(),
+            Range::Bytes(most) => spells_bytes(text, most as usize),
             Range::Byte => byte(text).is_ok(),
             Range::Word => true,
         }
@@ -126,7 +140,7 @@ impl Range {
     {
         let spelt = Spelt(field, text);
         match self {
-            Range::Bytes => Some(Reason::Hex(spelt, bytes_reason(text))),
+            Range::Bytes(most) => Some(Reason::Hex(spelt, bytes_reason(text, most))),
             Range::Byte => Some(Reason::Hex(spelt, byte_reason(text))),
             Range::Word => None,
             _ => Some(Reason::Number(spelt, self.number_reason(text))),
@@ -221,15 +235,15 @@ fn no_digit_in(text: &[u8]) -> Option<u8> {
     None
 }
 
-/// Why the text doesn't spell 1 to 32 bytes.
-fn bytes_reason(text: &[u8]) -> HexReason
-    requires { IsRefused Range.Bytes text.now }
+/// Why the text doesn't spell 1 to `most` bytes.
+fn bytes_reason(text: &[u8], most: u64) -> HexReason
+    requires { IsRefused (Range.Bytes most) text.now }
     ensures { IsTrueOfHex result text.now }
 {
     if text.len() % 2 == 1 {
         digits_reason(text, HexReason::Odd)
     } else {
-        digits_reason(text, HexReason::Long)
+        digits_reason(text, HexReason::Long(most))
     }
 }
 

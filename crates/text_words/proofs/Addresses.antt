@@ -1,9 +1,9 @@
 -- The digits of an address.
-use Rattle.std.proofs.Common.{◌≡◌, ℕ, zero, suc, ◌/◌, ◌%◌, ◌^◌, ◌+◌, ◌<◌, ◌≤◌, List, [], ◌∷◌, ◌++◌, append_assoc, length, length-append, ap, refl, sym, ◌∙◌, arith, inl, inr}
+use Rattle.std.proofs.Common.{◌≡◌, ℕ, suc, ◌/◌, ◌%◌, ◌+◌, ◌<◌, ◌≤◌, List, [], ◌∷◌, ◌++◌, append_assoc, length, length-append, ap, refl, sym, ◌∙◌, arith, inl, inr}
 use Rattle.std.proofs.lemmas.Bool.{le-leb}
 use Rattle.std.proofs.lemmas.Bool.Decides.{leb_tells}
 use Rattle.model_jobs.proofs.Fields.{fewer_digits, hex_within}
-use Rattle.model_jobs.specs.Texts.{address_text, hex_digit, hex_from}
+use Rattle.model_jobs.specs.Texts.{address_text, hex_digit}
 use Rattle.text_words.specs.Addresses.{wide_text}
 
 -- a number of one digit

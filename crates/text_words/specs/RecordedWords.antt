@@ -1,5 +1,5 @@
 -- The replies and entries of a recorded history, as those of the reference memory.
-use Rattle.std.specs.Prelude.{◌≡◌, ◌<◌, ◌≤◌, ◌^◌, Result, Ok, Err}
+use Rattle.std.specs.Prelude.{◌≡◌, ℕ, ◌<◌, ◌≤◌, ◌^◌, Result, Ok, Err}
 use Rattle.model_memory.specs.Plain.{Entry}
 use Rattle.model_words.specs.declared.commands.Command.{Command}
 use Rattle.model_words.specs.declared.commands.Command.TheVariants.{New}
@@ -7,6 +7,8 @@ use Rattle.model_words.specs.declared.commands.Reply.{Reply}
 use Rattle.model_words.specs.declared.commands.Reply.TheVariants.{Object as Made, Done, Bytes, At, Byte, Refused}
 use Rattle.model_words.specs.declared.faults.FaultKind.{FaultKind}
 use Rattle.text_fields.specs.Commands.{plain_command}
+use Rattle.text_fields.specs.Fields.{IsUnread}
+use Rattle.text_fields.specs.declared.faults.LineFault.{LineFault}
 use Rattle.text_words.specs.declared.recorded.RecordedReply.{RecordedReply}
 use Rattle.text_words.specs.declared.recorded.RecordedReply.TheVariants.{Object as RecordedObject, Done as RecordedDone, Bytes as RecordedBytes, At as RecordedAt, Byte as RecordedByte, Refused as RecordedRefused}
 use Rattle.text_words.specs.declared.recorded.RecordedEntry.{RecordedEntry}
@@ -34,8 +36,8 @@ abbrev pub IsNarrow : RecordedReply → Type 0
 IsNarrow (RecordedObject serial address) = address < 2 ^ 48
 IsNarrow reply = Unit {0}
 
--- the code reads an answer as the definition does: as the same reply, whose address has 48 bits if it is an object, or
--- as the same fault
-abbrev pub IsReplyRead : Result Reply FaultKind → Result RecordedReply FaultKind → Type 0
-IsReplyRead read (Ok reply) = (read ≡ Ok (plain_reply reply)) × IsNarrow reply
-IsReplyRead read (Err kind) = read ≡ Err kind
+-- the code reads an answer of at most `most` bytes as the definition does: as the same reply, whose address has 48 bits
+-- if it is an object. Otherwise it says why nothing was read
+abbrev pub IsReplyRead : ℕ → Result Reply FaultKind → Result RecordedReply LineFault → Type 0
+IsReplyRead most read (Ok reply) = (read ≡ Ok (plain_reply reply)) × IsNarrow reply
+IsReplyRead most read (Err fault) = IsUnread most read fault

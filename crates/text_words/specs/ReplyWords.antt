@@ -49,9 +49,9 @@ object_in fields =
 abbrev pub done_in : List (List ℕ) → Result Reply FaultKind
 done_in fields = no_field fields >>= λ _. Ok Done
 
--- `bytes HEX`
-abbrev pub loaded_in : List (List ℕ) → Result Reply FaultKind
-loaded_in fields = one_field fields >>= λ f. bytes_in f >>= λ bytes. Ok (Bytes (record { items = bytes }))
+-- `bytes HEX`, with at most `most` bytes
+abbrev pub loaded_in : ℕ → List (List ℕ) → Result Reply FaultKind
+loaded_in most fields = one_field fields >>= λ f. bytes_in most f >>= λ bytes. Ok (Bytes (record { items = bytes }))
 
 -- `at ADDR`
 abbrev pub at_in : List (List ℕ) → Result Reply FaultKind
@@ -65,17 +65,17 @@ peeked_in fields = one_field fields >>= λ f. byte_in f >>= λ byte. Ok (Byte by
 abbrev pub refused_in : List (List ℕ) → Result Reply FaultKind
 refused_in fields = two_fields fields >>= λ f. refusal_in f.0 f.1 >>= λ refusal. Ok (Refused refusal)
 
--- the reply of this word and these fields, or their fault
-abbrev pub reply_in : List ℕ → List (List ℕ) → Result Reply FaultKind
-reply_in word fields =
+-- the reply of this word and these fields, with at most `most` bytes, or their fault
+abbrev pub reply_in : ℕ → List ℕ → List (List ℕ) → Result Reply FaultKind
+reply_in most word fields =
     if are_same word (codes "object") then object_in fields
     else (if are_same word (codes "done") then done_in fields
-    else (if are_same word (codes "bytes") then loaded_in fields
+    else (if are_same word (codes "bytes") then loaded_in most fields
     else (if are_same word (codes "at") then at_in fields
     else (if are_same word (codes "byte") then peeked_in fields
     else (if are_same word (codes "refused") then refused_in fields else Err Word)))))
 
 -- the reply in these fields, the first of which is its word
-abbrev pub answer_in : List (List ℕ) → Result Reply FaultKind
-answer_in [] = Err Word
-answer_in (word ∷ fields) = reply_in word fields
+abbrev pub answer_in : ℕ → List (List ℕ) → Result Reply FaultKind
+answer_in most [] = Err Word
+answer_in most (word ∷ fields) = reply_in most word fields

@@ -65,7 +65,6 @@ fn add_at(text: &mut Vec<u8>, address: u64) -> Result<(), AllocError>
 
 /// Appends `bytes HEX`.
 fn add_loaded(text: &mut Vec<u8>, bytes: &[u8]) -> Result<(), AllocError>
-    requires { length bytes.now ≤ 32 }
     ensures { OnOk result (text.new.items ≡ text.old.items ++ (codes "bytes" ++ field (bytes_text bytes.now))) }
 {
     text.extend_from_slice(b"bytes ")?;
@@ -128,8 +127,21 @@ fn push_address(text: &mut Vec<u8>, address: u64)
     text.push_reserved(digit((address % 16) as u8));
 }
 
-/// Adds up to 32 bytes, two hexadecimal digits each, in lower case.
+/// Adds bytes, two hexadecimal digits each, in lower case.
 pub fn add_bytes(text: &mut Vec<u8>, bytes: &[u8]) -> Result<(), AllocError>
+    ensures { OnOk result (text.new.items ≡ text.old.items ++ bytes_text bytes.now) }
+{
+    let mut rest = bytes;
+    while rest.len() > MAX_BYTES {
+        let (first, later) = rest.split_at(MAX_BYTES);
+        add_few_bytes(text, first)?;
+        rest = later;
+    }
+    add_few_bytes(text, rest)
+}
+
+/// Adds up to 32 bytes, two hexadecimal digits each, in lower case.
+fn add_few_bytes(text: &mut Vec<u8>, bytes: &[u8]) -> Result<(), AllocError>
     requires { length bytes.now ≤ 32 }
     ensures { OnOk result (text.new.items ≡ text.old.items ++ bytes_text bytes.now) }
 {

@@ -1,5 +1,5 @@
 //! The text of mutators' commands.
-ghost use Rattle.std.specs.Prelude.{◌≡◌, ◌≤◌, ◌++◌, ◌∷◌, [], codes, length, OnOk};
+ghost use Rattle.std.specs.Prelude.{◌≡◌, ◌++◌, ◌∷◌, [], codes, OnOk};
 ghost use Rattle.std.specs.List.{flat_map};
 ghost use Rattle.model_jobs.specs.Texts.{address_text, bytes_text, command_text, field, number_field};
 ghost use Rattle.text_fields.specs.Commands.{plain_command};
@@ -67,7 +67,6 @@ pub fn add_object_command(text: &mut Vec<u8>, command: &SpeltCommand) -> Result<
 
 /// Appends a `put`.
 fn add_put(text: &mut Vec<u8>, cell: u32, off: u64, bytes: &[u8]) -> Result<(), AllocError>
-    requires { length bytes.now ≤ 32 }
     ensures { OnOk result
         (text.new.items ≡ text.old.items ++ codes "put" ++ number_field cell ++ number_field off
         ++ field (bytes_text bytes.now)) }
@@ -101,9 +100,8 @@ fn add_placed(text: &mut Vec<u8>, name: &[u8], address: u32) -> Result<(), Alloc
     add_address(text, u64::from(address))
 }
 
-/// Appends a space and up to 32 bytes, two hexadecimal digits each.
+/// Appends a space and bytes, two hexadecimal digits each.
 fn add_run(text: &mut Vec<u8>, bytes: &[u8]) -> Result<(), AllocError>
-    requires { length bytes.now ≤ 32 }
     ensures { OnOk result (text.new.items ≡ text.old.items ++ field (bytes_text bytes.now)) }
 {
     text.push(b' ')?;

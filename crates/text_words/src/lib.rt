@@ -17,4 +17,5 @@ mod replies;
 pub use answers::{add_address, add_bytes, add_decimal, add_recorded, add_refusal, add_reply};
 pub use commands::{add_command, add_named, add_numbers, add_object_command};
 pub use recorded::{RecordedEntry, RecordedReply};
+pub use refusals::refusal_named;
 pub use replies::reply_of;

@@ -1,6 +1,6 @@
 //! The entries of a recorded history: commands and their answers.
-use arrayvec::ArrayVec;
-use model_words::{MAX_BYTES, Refusal};
+use history_bytes::RecordedBytes;
+use model_words::Refusal;
 use text_fields::commands::SpeltCommand;
 
 /// The recorded answer of the allocator.
@@ -11,7 +11,7 @@ pub enum RecordedReply {
     /// The command was done, and has no other answer.
     Done,
     /// The bytes that were loaded.
-    Bytes(ArrayVec<u8, MAX_BYTES>),
+    Bytes(RecordedBytes),
     /// The address of the object.
     At(u64),
     /// The byte at the address.

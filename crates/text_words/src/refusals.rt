@@ -11,7 +11,7 @@ const MAX_REFUSAL: u32 = 17;
 
 /// Returns the refusal with this number and this name. The error is NUMBER if the first field isn't a number from 1 to
 /// 17. It is WORD if the second field isn't the name of the refusal with this number.
-pub(crate) fn refusal_named(number: &[u8], name: &[u8]) -> Result<Refusal, FaultKind>
+pub fn refusal_named(number: &[u8], name: &[u8]) -> Result<Refusal, FaultKind>
     ensures { result ≡ refusal_in number.now name.now }
 {
     let refusal = refusal_of(number32(number, 1, MAX_REFUSAL)?);

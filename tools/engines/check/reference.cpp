@@ -8,6 +8,7 @@
 // C++17 compiler; tools/bench/check.sh compiles and runs it.
 //
 // Objects are in a std::map and a std::unordered_map, their bytes in chunks of 64. A line is cut into its fields.
+#include <algorithm>
 #include <charconv>
 #include <cstdint>
 #include <fstream>
@@ -50,17 +51,28 @@ struct Object {
     }
 
     void store(uint64_t offset, const std::vector<uint8_t>& bytes, uint32_t at_line) {
-        for (size_t i = 0; i < bytes.size(); i++) {
+        for (uint64_t i = 0, run; i < bytes.size(); i += run) {
+            run = run_at(offset + i, bytes.size() - i);
             Chunk& chunk = chunks[(offset + i) / chunk_bytes];
-            chunk.bytes[(offset + i) % chunk_bytes] = bytes[i];
-            chunk.lines[(offset + i) % chunk_bytes] = at_line;
+            std::copy_n(bytes.begin() + i, run, chunk.bytes + (offset + i) % chunk_bytes);
+            std::fill_n(chunk.lines + (offset + i) % chunk_bytes, run, at_line);
         }
     }
 
     std::vector<uint8_t> load(uint64_t offset, uint64_t count) const {
-        std::vector<uint8_t> bytes;
-        for (uint64_t i = 0; i < count; i++) bytes.push_back(byte(offset + i));
+        std::vector<uint8_t> bytes(count);
+        for (uint64_t i = 0, run; i < count; i += run) {
+            run = run_at(offset + i, count - i);
+            auto found = chunks.find((offset + i) / chunk_bytes);
+            if (found == chunks.end()) continue;
+            std::copy_n(found->second.bytes + (offset + i) % chunk_bytes, run, bytes.begin() + i);
+        }
         return bytes;
+    }
+
+    /// How many of so many bytes from this offset on are in its chunk.
+    static uint64_t run_at(uint64_t offset, uint64_t count) {
+        return std::min(count, chunk_bytes - offset % chunk_bytes);
     }
 };
 

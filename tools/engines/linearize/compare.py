@@ -4,8 +4,9 @@
     tools/engines/linearize/compare.py [COUNT [SEED]]
 
 COUNT is the number of histories, by default 1,000, and SEED the first seed, by default 1. A history has 2 to 7 calls of
-2 to 4 threads. In every third one, some threads' last calls were pending when the recording stopped. It is a history if each `new` has a cell of its own, and each other call is between the `new` and the
-`free` of its cell. If it isn't, its calls are a history up to some call that begins. Then reference.py must report that
+2 to 4 threads. In every third one, some threads' last calls were pending when the recording stopped. Every fifth one
+may have accesses of up to 4,096 bytes. It is a history if each `new` has a cell of its own, and each other call is
+between the `new` and the `free` of its cell. If it isn't, its calls are a history up to some call that begins. Then reference.py must report that
 they are none, unless a call is wrong that ended before. Compared are
 
 - whether the history is linearizable;
@@ -68,11 +69,24 @@ def unexplained(calls):
     return next((call for call in in_time if not is_explained_at_end(call, calls, words_of(call, call.answer))), None)
 
 
+def bytes_at(call, calls):
+    """The bytes that a `get` might load, if times didn't matter. The pieces of its range that no store divides each have
+    the bytes of some store, or zeros."""
+    whole = reference.Accesses.range_of(call)
+    stores = [(reference.Accesses.range_of(put), bytes.fromhex(put.fields[1])) for put in calls
+              if put.word == "put" and put.cell == call.cell]
+    borders = {whole.start, whole.stop, *(border for store, _ in stores for border in (store.start, store.stop))}
+    of_pieces = []
+    for first, end in itertools.pairwise(sorted(at for at in borders if whole.start <= at <= whole.stop)):
+        stored = {data[first - store.start:end - store.start] for store, data in stores if first in store}
+        of_pieces.append(stored | {bytes(end - first)})
+    return map(b"".join, itertools.product(*of_pieces))
+
+
 def possible_answers(call, calls):
     """The answers of a `get` that some order explains if the call is as short as can be, at its end."""
     moment = call.end + 0.5
-    every = itertools.product(random_histories.ALPHABET, repeat=int(call.fields[1]))
-    answers = (f"bytes {bytes(loaded).hex()}" for loaded in every)
+    answers = (f"bytes {loaded.hex()}" for loaded in bytes_at(call, calls))
     return reference.listed([answer for answer in answers
                              if is_explained_at_end(call, calls, (moment, moment, words_of(call, answer)[2]))])
 
@@ -123,6 +137,8 @@ def main():
         text = random_histories.history(seed, 2 + seed % 6, 2 + seed % 3)
         if seed % 3 == 0:
             text = with_pending(text, random.Random(seed))
+        if seed % 5 == 0:
+            text = random_histories.lengthened(text, random.Random(seed))
         calls, _ = reference.calls_of_text(text)
         verdict = reference.judged(text, LIMIT)[1]
         kinds[kind_of_verdict(verdict)] += 1

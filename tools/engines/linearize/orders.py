@@ -43,7 +43,7 @@ def respects_time(order):
 
 
 class Memory:
-    """Separate objects, each reached by its cell: its address, its length, and the bytes that were stored to."""
+    """Separate objects, each reached by its cell: its address, its length, and its stores, pairs (offset, bytes)."""
 
     def __init__(self):
         self.live = {}
@@ -58,7 +58,7 @@ class Memory:
         if length == 0 or serial in self.serials or not apart:
             return False
         self.serials.add(serial)
-        self.live[cell] = first, length, {}
+        self.live[cell] = first, length, []
         return True
 
     def free(self, cell, *answer):
@@ -72,16 +72,20 @@ class Memory:
             return False
         _, length, stored = self.live[cell]
         data = bytes.fromhex(data)
-        stored.update(enumerate(data, int(offset)))
+        stored.append((int(offset), data))
         return int(offset) + len(data) <= length and answer == ("done",)
 
     def get(self, cell, offset, count, *answer):
         if cell not in self.live:
             return False
         _, length, stored = self.live[cell]
-        offsets = range(int(offset), int(offset) + int(count))
-        loaded = bytes(stored.get(at, 0) for at in offsets)
-        return offsets.stop <= length and answer == ("bytes", loaded.hex())
+        offset, count = int(offset), int(count)
+        loaded = bytearray(count)
+        for at, data in stored:
+            first, end = max(at, offset), min(at + len(data), offset + count)
+            if first < end:
+                loaded[first - offset:end - offset] = data[first - at:end - at]
+        return offset + count <= length and answer == ("bytes", loaded.hex())
 
 
 def is_legal(order):

@@ -1,13 +1,16 @@
 #!/usr/bin/env python3
 """Prints a random history of overlapping calls that is linearizable or nearly so.
 
-    tools/engines/linearize/random_histories.py SEED [--calls N] [--threads T] [--right]
+    tools/engines/linearize/random_histories.py SEED [--calls N] [--threads T] [--right] [--long]
 
 N is by default 200, and T 4. The same arguments give the same history.
 
 Threads make calls on separate objects. Each call has its effect at a moment between its BEGIN and its END, and its
 answer is for the objects at that moment. With --right this history is printed. Without it, three of four histories are
 changed: in one answer, one address, one serial, one time, or the clock of one thread from one of its calls on.
+
+Accesses have 1 to 4 bytes. With --long some have up to 4,096: the first bytes of objects become runs of equal bytes.
+Without --right, a byte of a load is changed in half of these histories.
 
 The output is always a history of version 2, but with a changed time a call may, for example, end after the begin of its
 object's `free`.
@@ -19,6 +22,9 @@ import random
 import sys
 
 ALPHABET = (0x00, 0x11, 0x22)
+# How many bytes an access may have, and how many bytes of an object become runs.
+MOST_BYTES = 4096
+MOST_RUNS = 8
 BEGIN, EFFECT, END = range(3)
 UNFAIR = "refused 1 ZERO"
 FAIR = ("refused 2 TOO_LARGE", "refused 3 NO_PAGES", "refused 4 NO_ADDRESSES")
@@ -231,6 +237,77 @@ def changed_clock(rng, calls):
     calls.sort(key=lambda call: call.begin)
 
 
+# ---- Long accesses ----
+
+class Runs:
+    """What a history is with long accesses: a byte of an object is a run of bytes. No run is longer than `longest`."""
+
+    def __init__(self, rng, longest):
+        self.longest = longest
+        self.starts = [0]
+        for _ in range(MOST_RUNS):
+            length = rng.choice((1, 1, rng.randint(1, 70), rng.randint(1, longest), longest))
+            self.starts.append(self.starts[-1] + min(length, longest))
+
+    def place(self, offset):
+        """The offset of the run of a byte."""
+        last = min(offset, MOST_RUNS)
+        return self.starts[last] + offset - last
+
+    def data(self, offset, digits):
+        """The bytes of the runs from an offset on, in hexadecimal digits."""
+        return "".join(f"{byte:02x}" * (self.place(at + 1) - self.place(at))
+                       for at, byte in enumerate(bytes.fromhex(digits), offset))
+
+    def address(self, spelt):
+        """An address, so that ranges that are apart stay so."""
+        return f"{int(spelt, 16) * self.longest:x}"
+
+    def line(self, line):
+        """The line of a call."""
+        entry, arrow, answer = line.partition(" -> ")
+        *stamps, word, cell, first, what = [*entry.split(" "), "", ""][:7]
+        if word == "new":
+            first = self.place(int(first))
+        elif word in ("put", "get"):
+            offset = int(first)
+            first = self.place(offset)
+            what = self.data(offset, what) if word == "put" else self.place(offset + int(what)) - first
+        told = answer.split(" ")
+        if told[0] in ("object", "at"):
+            told[-1] = self.address(told[-1])
+        elif told[0] == "bytes":
+            told[-1] = self.data(offset, told[-1])
+        return " ".join(str(field) for field in [*stamps, word, cell, first, what] if field != "") + arrow + " ".join(told)
+
+
+def most_accessed(lines):
+    """The greatest number of bytes of an access of a history."""
+    fields = [line.split(" ") for line in lines]
+    puts = [len(line[6]) // 2 for line in fields if line[3] == "put"]
+    return max([1, *puts, *(int(line[6]) for line in fields if line[3] == "get")])
+
+
+def with_other_byte(rng, line):
+    """The line of a call that loaded bytes, with one of them changed: often the first or the last."""
+    call, digits = line.rsplit(" ", 1)
+    data = bytearray.fromhex(digits)
+    data[rng.choice((0, -1, rng.randrange(len(data))))] ^= 0x11
+    return f"{call} {data.hex()}"
+
+
+def lengthened(text, rng, is_right=False):
+    """The history with some long accesses."""
+    head, *lines = text.splitlines()
+    runs = Runs(rng, min(MOST_BYTES // most_accessed(lines), rng.choice((40, 300, MOST_BYTES))))
+    lines = [runs.line(line) for line in lines]
+    loads = [number for number, line in enumerate(lines) if " -> bytes " in line]
+    if loads and not is_right and rng.random() < 0.5:
+        number = rng.choice(loads)
+        lines[number] = with_other_byte(rng, lines[number])
+    return "\n".join([head, *lines, ""])
+
+
 def history(seed, count, threads, is_right=False):
     """The text of the history of a seed."""
     rng = random.Random(seed)
@@ -246,8 +323,12 @@ def main():
     parser.add_argument("--calls", metavar="N", type=int, default=200)
     parser.add_argument("--threads", metavar="T", type=int, default=4)
     parser.add_argument("--right", action="store_true", help="a history in which nothing is changed")
+    parser.add_argument("--long", action="store_true", help="a history of which some accesses are long")
     words = parser.parse_args()
-    sys.stdout.write(history(words.seed, words.calls, words.threads, words.right))
+    text = history(words.seed, words.calls, words.threads, words.right)
+    if words.long:
+        text = lengthened(text, random.Random(words.seed), words.right)
+    sys.stdout.write(text)
 
 
 if __name__ == "__main__":

@@ -123,10 +123,12 @@ def listed(possible):
     return " | ".join(sorted(possible)[:MOST_NAMED] + [".."] * (len(possible) > MOST_NAMED))
 
 
-def unexplained(answer, possible):
-    """The reason of a call whose answer is none of the possible ones. Loads are those of a load behind all others."""
+def unexplained(answer, possible, made=None):
+    """The reason of a call whose answer is none of the possible ones. Loads are those of a load behind all others. For
+    an access, `made` is its object."""
     last = " if it took effect last" if possible and all(one.startswith("bytes ") for one in possible) else ""
-    return f"no order explains {answer}; possible{last}: {listed(possible)}"
+    of = f" of object {made.serial} in cell {made.call.cell}, made at line {made.call.line}" if made else ""
+    return f"no order explains {answer}{of}; possible{last}: {listed(possible)}"
 
 
 # ---- The calls that make objects ----
@@ -221,18 +223,37 @@ def first_flaw_of_news(calls):
 
 # ---- The calls of one object ----
 
+def common(one, other):
+    """The range that two ranges have in common, which is empty if they don't meet."""
+    return range(max(one.start, other.start), min(one.stop, other.stop))
+
+
+def joined(ranges):
+    """The offsets of some ranges as ranges that don't meet, in their order."""
+    found = []
+    for one in sorted(ranges, key=lambda one: one.start):
+        if found and one.start <= found[-1].stop:
+            found[-1] = range(found[-1].start, max(found[-1].stop, one.stop))
+        else:
+            found.append(one)
+    return found
+
+
 class Accesses:
     """The configurations of one object.
 
-    The bytes of a configuration are those at the offsets that any store names: all others are zero.
+    The bytes of a configuration are those at the offsets that any store names: all others are zero. `blocks` are the
+    ranges of these offsets, each with the place of its first byte.
     """
 
     def __init__(self, made, puts, limit):
         self.made = made
         self.limit = limit
-        offsets = {offset for put in puts if self.is_inside(put) for offset in self.range_of(put)}
-        self.places = {offset: place for place, offset in enumerate(sorted(offsets))}
-        self.kept = {(bytes(len(offsets)), frozenset())}
+        self.blocks, place = [], 0
+        for block in joined(self.range_of(put) for put in puts if self.is_inside(put)):
+            self.blocks.append((block, place))
+            place += len(block)
+        self.kept = {(bytes(place), frozenset())}
         self.pending = []
 
     @staticmethod
@@ -246,7 +267,14 @@ class Accesses:
 
     def bytes_loaded(self, call, state):
         """The bytes that a `get` loads."""
-        return bytes(state[self.places[offset]] if offset in self.places else 0 for offset in self.range_of(call))
+        whole = self.range_of(call)
+        loaded = bytearray(len(whole))
+        for block, place in self.blocks:
+            part = common(block, whole)
+            if part:
+                at = place + part.start - block.start
+                loaded[part.start - whole.start:part.stop - whole.start] = state[at:at + len(part)]
+        return bytes(loaded)
 
     def answer(self, call, state):
         """The answer to a call that has its effect on these bytes."""
@@ -257,12 +285,13 @@ class Accesses:
         return "done" if call.word == "put" else f"bytes {self.bytes_loaded(call, state).hex()}"
 
     def effect(self, call, state):
-        """The bytes after the effect of a call that was answered as these bytes have it. The offsets of a store are
-        places side by side."""
+        """The bytes after the effect of a call that was answered as these bytes have it. The range of a store is in one
+        block."""
         if call.word != "put" or not self.is_inside(call):
             return state
-        place, data = self.places[int(call.fields[0])], bytes.fromhex(call.fields[1])
-        return state[:place] + data + state[place + len(data):]
+        first, data = int(call.fields[0]), bytes.fromhex(call.fields[1])
+        at = next(place + first - block.start for block, place in self.blocks if first in block)
+        return state[:at] + data + state[at + len(data):]
 
     def met_at_end(self, ending):
         """The kept configurations and what effects of pending calls make of them, up to that of the call that ends.
@@ -293,7 +322,7 @@ class Accesses:
         self.kept = {(state, done - {ending.line}) for state, done in met if ending.line in done}
         if self.kept:
             return None
-        return unexplained(ending.answer, {self.answer(ending, state) for state, _ in met})
+        return unexplained(ending.answer, {self.answer(ending, state) for state, _ in met}, self.made)
 
 
 def first_flaw_of_cell(calls, limit):

@@ -29,7 +29,12 @@ def wrong_call(text):
 
 def offsets(call, word):
     """The bytes that a call with this word accesses."""
-    return set(reference.Accesses.range_of(call)) if call.word == word else set()
+    return reference.Accesses.range_of(call) if call.word == word else range(0)
+
+
+def borders_of(call):
+    """The first byte of a store and the first one behind it. Between two borders all bytes are alike."""
+    return (offsets(call, "put").start, offsets(call, "put").stop) if call.word == "put" else ()
 
 
 def is_between(calls, byte, store, load):
@@ -44,7 +49,9 @@ def has_byte_of(calls, store, load):
     """Whether the load may have a byte of the store."""
     if store.cell != load.cell or load.end < store.begin:
         return False
-    return any(not is_between(calls, byte, store, load) for byte in offsets(store, "put") & offsets(load, "get"))
+    both = reference.common(offsets(store, "put"), offsets(load, "get"))
+    borders = {both.start, *(border for third in calls for border in borders_of(third))} if both else ()
+    return any(not is_between(calls, byte, store, load) for byte in borders if byte in both)
 
 
 def taken_with(calls, call):

@@ -7,7 +7,7 @@ COUNT is the number of histories, by default 1,000, and SEED the first seed, by 
 which is compared too if it is given. The histories are random. Those with an even seed are of random_histories.py; most
 have 2 to 9 calls, and some 60, of 2 to 8 threads. The others have 3 to 9 accesses to one object of a few bytes, which
 race, and in half of them answers are changed. In half of all histories, last calls of threads were pending when the
-recording stopped.
+recording stopped. One in six has accesses of up to 4,096 bytes.
 
 Each program must print the same verdict as tools/engines/linearize/reference.py, with the same status. The engine in
 mode `plain` must do so with at most three configurations too. PROGRAM, which meets no more than the engine in mode
@@ -15,13 +15,14 @@ mode `plain` must do so with at most three configurations too. PROGRAM, which me
 which must be the one without the bound.
 
 Each difference is a line of the output, and the last line counts the verdicts by kind. The status is 1 if there is a
-difference, if a kind never came up or if no call was pending, and 2 if the engine can't be compiled. It needs a C++ compiler (CXX, by default
-g++).
+difference, if a kind never came up, if no call was pending or if no access had more than 32 bytes, and 2 if the engine
+can't be compiled. It needs a C++ compiler (CXX, by default g++).
 """
 import collections
 import os
 import pathlib
 import random
+import re
 import subprocess
 import sys
 import tempfile
@@ -34,12 +35,15 @@ import reference
 MODES = ("plain", "reads", "inside", "parts", "serves")
 KINDS = ("linearizable", "no order explains bytes", "overlaps", "no history", "undecided", " | ")
 LIMIT, FEW = 100000, 3
+LONG_ACCESS = re.compile(" [0-9a-f]{66}")
 BOUND = ["--configurations", str(FEW)]
 
 
 def history(seed):
     """The text of the history of a seed."""
     text = finished_history(seed)
+    if seed // 4 % 6 == 5:
+        text = random_histories.lengthened(text, random.Random(seed))
     return with_pending(random.Random(seed), text) if seed // 2 % 2 == 1 else text
 
 
@@ -137,7 +141,7 @@ def differences(seed, text, kinds, engine, program, path):
 def main():
     count, first = [int(word) for word in sys.argv[1:3]] + [1000, 1][len(sys.argv[1:3]):]
     program = sys.argv[3] if len(sys.argv) > 3 else None
-    kinds, differing, pending = collections.Counter(), 0, 0
+    kinds, differing, pending, long = collections.Counter(), 0, 0, 0
     with tempfile.TemporaryDirectory() as room:
         engine, path = f"{room}/engine", pathlib.Path(room) / "random.history"
         compiler = [os.environ.get("CXX", "g++"), "-O2", "-std=c++17", "-static", "-o", engine]
@@ -146,12 +150,13 @@ def main():
         for seed in range(first, first + count):
             text = history(seed)
             pending += " - " in text
+            long += LONG_ACCESS.search(text) is not None
             for line in differences(seed, text, kinds, engine, program, path):
                 differing += 1
                 print(line, flush=True)
     named = ", ".join(f"{kinds[kind]} {kind}" for kind in KINDS)
-    print(f"{count} histories, {pending} with pending calls, {differing} differences: {named}")
-    return 0 if differing == 0 and pending > 0 and all(kinds[kind] for kind in KINDS) else 1
+    print(f"{count} histories, {pending} with pending calls, {long} with long accesses, {differing} differences: {named}")
+    return 0 if differing == 0 and pending and long and all(kinds[kind] for kind in KINDS) else 1
 
 
 if __name__ == "__main__":

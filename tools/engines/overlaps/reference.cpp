@@ -52,7 +52,6 @@ using Marks = uint64_t;
 
 constexpr Moment never = Moment{1} << 64;
 constexpr unsigned most_pending = 64;
-constexpr size_t most_bytes = 32;
 constexpr size_t most_named = 8;
 constexpr uint64_t chunk_bytes = 64;
 constexpr size_t least_slots = 16;
@@ -115,9 +114,10 @@ void cut(std::string_view text, Fields& fields) {
 
 bool begins_with(std::string_view text, std::string_view start) { return text.substr(0, start.size()) == start; }
 
-std::string unexplained(const std::string& answer, const std::string& possible) {
+/// The reason of a wrong answer. `of` is the object of an access, and empty for a `new`.
+std::string unexplained(const std::string& answer, const std::string& of, const std::string& possible) {
     const char* last = begins_with(possible, "bytes ") ? " if it took effect last" : "";
-    return "no order explains " + answer + "; possible" + last + ": " + possible;
+    return "no order explains " + answer + of + "; possible" + last + ": " + possible;
 }
 
 // ---- Accesses ----
@@ -141,7 +141,7 @@ struct Access {
     /// Where the bytes of the range begin in those of a configuration.
     uint32_t place = 0;
     /// What is stored, or was loaded.
-    std::array<uint8_t, most_bytes> data;
+    std::vector<uint8_t> data;
 
     bool matches(const uint8_t* bytes) const { return memcmp(bytes + place, data.data(), range.count()) == 0; }
     void store(uint8_t* bytes) const { memcpy(bytes + place, data.data(), range.count()); }
@@ -403,19 +403,29 @@ private:
 class Base {
 public:
     void load(const Range& range, uint8_t* bytes) const {
-        for (uint64_t offset = range.first; offset < range.end; offset++) {
-            auto found = chunks_.find(offset / chunk_bytes);
-            bytes[offset - range.first] = found == chunks_.end() ? 0 : found->second[offset % chunk_bytes];
+        for (Range left = range; !left.is_empty();) {
+            const Range run = run_of(left);
+            auto found = chunks_.find(run.first / chunk_bytes);
+            if (found == chunks_.end()) memset(bytes, 0, run.count());
+            else memcpy(bytes, &found->second[run.first % chunk_bytes], run.count());
+            bytes += run.count(), left.first = run.end;
         }
     }
 
     void store(const Range& range, const uint8_t* bytes) {
-        for (uint64_t offset = range.first; offset < range.end; offset++) {
-            chunks_[offset / chunk_bytes][offset % chunk_bytes] = bytes[offset - range.first];
+        for (Range left = range; !left.is_empty();) {
+            const Range run = run_of(left);
+            memcpy(&chunks_[run.first / chunk_bytes][run.first % chunk_bytes], bytes, run.count());
+            bytes += run.count(), left.first = run.end;
         }
     }
 
 private:
+    /// The beginning of a range that is in one chunk.
+    static Range run_of(const Range& range) {
+        return {range.first, std::min(range.end, (range.first / chunk_bytes + 1) * chunk_bytes)};
+    }
+
     std::unordered_map<uint64_t, std::array<uint8_t, chunk_bytes>> chunks_;
 };
 
@@ -700,7 +710,7 @@ private:
         if (!access.is_store && call.end == never) return access;
         std::string_view data = access.is_store ? asked[6] : std::string_view(call.answer).substr(6);
         access.can = data.size() == 2 * count;
-        for (size_t i = 0; 2 * i < data.size(); i++) access.data[i] = number(data.substr(2 * i, 2), 16);
+        for (size_t i = 0; i < data.size(); i += 2) access.data.push_back(number(data.substr(i, 2), 16));
         return access;
     }
 
@@ -711,7 +721,7 @@ private:
         if (reason.empty() && call.place) {
             End end = cell.object->judge.end(*call.place);
             if (end == End::too_many) return undecided(call, std::to_string(search_.limit) + " configurations");
-            if (end == End::unexplained) reason = unexplained(call.answer, possible(call, *cell.object));
+            if (end == End::unexplained) reason = unexplained(call.answer, named(call, *cell.object), possible(call, *cell.object));
         }
         if (reason.empty()) return {};
         return Verdict{3, "line " + std::to_string(call.line) + ": " + reason};
@@ -719,12 +729,12 @@ private:
 
     /// Takes the end of a `new`. Returns the reason if it has a flaw, or nothing.
     std::string end_new(const Call& call, Cell& cell) {
-        if (call.length == 0) return call.answer == "refused 1 ZERO" ? "" : unexplained(call.answer, "refused 1 ZERO");
+        if (call.length == 0) return call.answer == "refused 1 ZERO" ? "" : unexplained(call.answer, "", "refused 1 ZERO");
         if (!call.is_object()) {
             for (const char* fair : {"refused 2 ", "refused 3 ", "refused 4 "}) {
                 if (begins_with(call.answer, fair)) return {};
             }
-            return unexplained(call.answer, "object");
+            return unexplained(call.answer, "", "object");
         }
         if (!serials_.insert(call.serial).second) return "serial again";
         if (const Object* other = overlapped(call)) {
@@ -743,6 +753,12 @@ private:
         if (behind == starts_.begin()) return nullptr;
         const Object* other = std::prev(behind)->second;
         return other->address + static_cast<unsigned __int128>(other->length) > made.address ? other : nullptr;
+    }
+
+    /// The object of an access, as a text.
+    static std::string named(const Call& call, const Object& object) {
+        return " of object " + std::to_string(object.serial) + " in cell " + std::to_string(call.cell) + ", made at line "
+            + std::to_string(object.line);
     }
 
     /// The answers that an access could have had, as a text: the first of them, and two dots if there are more.

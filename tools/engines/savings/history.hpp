@@ -63,7 +63,7 @@ public:
     }
 
 private:
-    static constexpr size_t LONGEST_LINE = 1024;
+    static constexpr size_t LONGEST_LINE = 16384;
     static constexpr uint64_t MOST_LINES = 4294967295;
 
     void count() {
@@ -148,7 +148,7 @@ struct Form {
     std::string_view fields;
 };
 
-// n: a number of 32 bits, s: a length or an offset of up to 2^47, w: a number of 64 bits, c: 1 to 32, a: ADDR, h: HEX,
+// n: a number of 32 bits, s: a length or an offset of up to 2^47, w: a number of 64 bits, c: 1 to 4,096, a: ADDR, h: HEX,
 // b: BYTE, @: the word `at`, r: the number of a refusal, whose name is the next field, .: that name.
 constexpr Form COMMANDS[] = {{"new", "nsw"}, {"free", "n"}, {"alias", "nn"}, {"put", "nsh"},   {"get", "nsc"},
                              {"addr", "n"},  {"peek", "a"}, {"poke", "ab"},  {"copy", "nsnsc"}};
@@ -162,7 +162,8 @@ constexpr std::string_view REFUSALS[] = {"ZERO",    "TOO_LARGE", "NO_PAGES", "NO
 template <size_t N>
 const Form &read_form(const Form (&forms)[N], const std::string_view *begin, const std::string_view *end,
                       uint64_t *numbers) {
-    constexpr uint64_t MOST_NUMBER = 4294967295, MOST_SIZE = uint64_t{1} << 47, MOST_ADDRESS = 281474976710655;
+    constexpr uint64_t MOST_NUMBER = 4294967295, MOST_SIZE = uint64_t{1} << 47, MOST_ADDRESS = 281474976710655,
+                       MOST_BYTES = 4096;
     if (begin == end) throw LineFault{"WORD"};
     const std::string_view word = *begin++;
     const Form *form = std::find_if(forms, forms + N, [&](const Form &f) { return f.word == word; });
@@ -173,9 +174,9 @@ const Form &read_form(const Form (&forms)[N], const std::string_view *begin, con
         case 'n': *numbers++ = number_in(field, 0, MOST_NUMBER); break;
         case 's': *numbers++ = number_in(field, 0, MOST_SIZE); break;
         case 'w': number_in(field, 0, UINT64_MAX); break;
-        case 'c': number_in(field, 1, 32); break;
+        case 'c': number_in(field, 1, MOST_BYTES); break;
         case 'a': number_in(field, 0, MOST_ADDRESS, 16); break;
-        case 'h': read_bytes(field, 32); break;
+        case 'h': read_bytes(field, MOST_BYTES); break;
         case 'b': read_bytes(field, 1); break;
         case '@':
             if (field != "at") throw LineFault{"WORD"};

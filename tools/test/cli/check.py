@@ -12,6 +12,7 @@ sys.path.append(str(pathlib.Path(__file__).resolve().parents[2] / "engines/linea
 import witnesses
 
 PENDING = rb"calls that were pending: [1-9]\d*\n"
+COPIES = re.compile(rb" (?:put \d+ \d+|bytes) [0-9a-f]{8192}\b")
 OVERLAPPING = pathlib.Path("histories/overlapping")
 LOST_STORE = (
     "line 306: answer differs: bytes 00000000000000000000000000000000, "
@@ -134,13 +135,19 @@ def recorded_threads(suite):
     right_threads(suite, "2 threads on malloc", real, "--threads", 2)
     right_threads(suite, "4 threads on malloc", real, "--threads", 4)
     right_threads(suite, "4 threads on a pool", real, "--threads", 4, "--pool")
+    right_threads(suite, "4 threads that copy", real, "--threads", 4, "--copies")
+    copied = len(COPIES.findall((suite.room / "real.history").read_bytes()))
+    suite.report("record: copies of 4,096 bytes in a line each", [] if copied > 10 else [f"{copied}"])
     if platform.machine() == "x86_64":
         words = *words, "-DMESH_RECORD_TSC"
         timed = compiled(suite, "threads in C that race, with time stamps", words, suite.room / "timed")
         right_threads(suite, "4 threads with time stamps", timed, "--threads", 4)
     for bug in ("double", "uncleared", "lost-store"):
         wrong_threads(suite, real, bug)
-    crashed_threads(suite, real)
+    words = "gcc", "-std=gnu11", "-Wpedantic", "examples/merge_record.c"
+    merge = compiled(suite, "a program that merges the records of threads", words, suite.room / "merge")
+    crashed_threads(suite, real, merge, "within a store", b"[0-9a-f]{16}")
+    crashed_threads(suite, real, merge, "within a copy", b"[0-9a-f]{8192}", "--copies")
 
 
 def right_threads(suite, name, real, *words):
@@ -173,35 +180,39 @@ def recorded(suite, real, *words):
     return run, suite.write("real.history", run.output)
 
 
-def crashed_threads(suite, real):
-    """Threads of which one aborts within a store: the calls up to the abort, among them the store."""
-    words = "gcc", "-std=gnu11", "-Wpedantic", "examples/merge_record.c"
-    merge = compiled(suite, "a program that merges the records of threads", words, suite.room / "merge")
-    run, history = recorded(suite, real, "--crash-after", 500)
-    suite.compare("record: threads that crash", run, 134, NOTHING, NOTHING)
+def crashed_threads(suite, real, merge, where, stored, *words):
+    """Threads of which one aborts within a store: the calls up to the abort, among them the store with these bytes."""
+    (suite.room / "real.record").unlink(missing_ok=True)
+    run, history = recorded(suite, real, "--crash-after", 500, *words)
+    suite.compare(f"record: threads that crash {where}", run, 134, NOTHING, NOTHING)
     merged = execute([merge, suite.room / "real.record"])
     history.write_bytes(merged.output)
     pending = re.fullmatch(PENDING, merged.errors)
-    stores = re.findall(rb"^0 \d+ - put ", merged.output, re.MULTILINE)
+    stores = re.findall(rb"^0 \d+ - put \d+ \d+ %s$" % stored, merged.output, re.MULTILINE)
     is_whole = merged.status == 0 and pending and len(stores) == 1 and entries_in(history) > 500
-    suite.report("record: the calls before a crash", [] if is_whole else [f"status {merged.status}, {merged.errors}"])
+    name = f"record: the calls before a crash {where}"
+    suite.report(name, [] if is_whole else [f"status {merged.status}, {merged.errors}"])
     wanted = line(f"linearizable {entries_in(history)} entries")
-    suite.check("check: the recorded history of a crash", 0, wanted, NOTHING, "check", history)
+    suite.check(f"check: the recorded history of a crash {where}", 0, wanted, NOTHING, "check", history)
 
-    # The kind of the first call: the first line of 64 bytes is the file's head.
-    record = bytearray((suite.room / "real.record").read_bytes())
-    record[64 + 28] = 9
-    merged = execute([merge, suite.write("overwritten.record", record)])
-    suite.compare("record: a call that was overwritten", merged, 1, Beginning(b"history 2\n"), SOME_TEXT)
+    # The kind of the first call, and how many bytes it has: the first 64 bytes are the file's head.
+    for what, place in ("call", 64 + 28), ("number of bytes", 64 + 31):
+        record = bytearray((suite.room / "real.record").read_bytes())
+        record[place] = 0xFF
+        merged = execute([merge, suite.write("overwritten.record", record)])
+        name = f"record: a {what} that was overwritten, after a crash {where}"
+        suite.compare(name, merged, 1, Beginning(b"history 2\n"), SOME_TEXT)
 
 
 def long_lines(suite, version):
     """Lines as long as they may be, and longer."""
     for name, text, fault in (
-        ("a line of 1,024 bytes", "0" * 1024 + "\n", "WORD"),
-        ("a line of 1,024 bytes that is cut off", "0" * 1024, "CUT"),
-        ("a line of 1,025 bytes", "0" * 1025 + "\n", "LONG_LINE"),
-        ("a long line that is cut off", "0" * 1025, "LONG_LINE"),
+        ("a line of 1,025 bytes", "0" * 1025 + "\n", "WORD"),
+        ("a line of 16,384 bytes", "0" * 16384 + "\n", "WORD"),
+        ("a line of 16,384 bytes that is cut off", "0" * 16384, "CUT"),
+        ("a line of 16,385 bytes", "0" * 16385 + "\n", "LONG_LINE"),
+        ("a line of 16,385 tabs", "\t" * 16385 + "\n", "LONG_LINE"),
+        ("a long line that is cut off", "0" * 16385, "LONG_LINE"),
     ):
         history = suite.write("long.history", f"history {version}\n{text}".encode())
         name = f"check: {name}, version {version}"

@@ -11,6 +11,7 @@ from cli.suite import NOTHING, line, lines
 sys.path.append(str(pathlib.Path(__file__).resolve().parents[2] / "engines/linearize"))
 import compare
 import orders
+import random_histories
 import reference
 import witnesses
 
@@ -32,12 +33,14 @@ def cases(suite):
 
 
 def tiny_histories(suite):
-    """Random histories of up to 5 calls. Searches over all orders find the same first wrong call, or broken rule."""
+    """Random histories of up to 5 calls, every tenth with long accesses. Searches over all orders find the same first
+    wrong call, or broken rule."""
     source = random.Random(2026)
     counts, faults = collections.Counter(), []
     for number in range(TINY):
-        calls = list(tiny_calls(source))
-        text = lines(["history 2", *calls])
+        text = lines(["history 2", *tiny_calls(source)])
+        if number % 10 == 0:
+            text = random_histories.lengthened(text.decode(), random.Random(number)).encode()
         kind, recorded = kind_of(text.decode()), reference.calls_of_text(text.decode())[0]
         counts[kind] += 1
         run = suite.run("check", suite.write("tiny.history", text))
@@ -45,17 +48,20 @@ def tiny_histories(suite):
         differs = compare.difference_of_none if kind == NO_HISTORY else compare.difference
         told = differs(recorded, verdict)
         if told or (run.status, run.errors) != (0 if kind == IN_ORDER else 3, b""):
-            faults.append(f"{number}, {calls}: {kind}, {verdict}, {told}")
+            faults.append(f"{number}, {text[:400]}: {kind}, {verdict[:200]}, {told}")
     few = [f"{counts[kind]} {kind}" for kind in (IN_ORDER, WITHOUT_ORDER, NO_HISTORY) if counts[kind] <= LEAST]
     suite.report(f"overlaps: {TINY} random histories, as all orders of each have it", faults[:3] + few)
 
 
 def witnesses_of_random(suite):
-    """Random histories of which some have a wrong answer. Each of these has a witness, and another engine takes it."""
+    """Random histories of which some have a wrong answer, and every fifth has long accesses. Each of the wrong ones has
+    a witness, and another engine takes it."""
     source = random.Random(7)
     wrong, faults, many = 0, [], 0
     for number in range(WITNESSED):
         text = lines(["history 2", *random_accesses(source)])
+        if number % 5 == 0:
+            text = random_histories.lengthened(text.decode(), random.Random(number)).encode()
         if witnesses.wrong_call(text.decode()) is None:
             continue
         wrong += 1
@@ -64,7 +70,7 @@ def witnesses_of_random(suite):
         told = witnesses.fault_of(text.decode(), witness) if witness.startswith("history 2\n") else witness
         many += len(witness.splitlines()) > len(witnesses.smallest(text.decode()).splitlines())
         if told or (run.status, run.errors) != (3, b""):
-            faults.append(f"{number}, {text}: {told}")
+            faults.append(f"{number}, {text[:2000]}: {told}")
     few = [f"{wrong} with a wrong answer"] if wrong <= LEAST else []
     more = [f"{many} of {wrong} witnesses aren't the smallest"] if many * 10 > wrong else []
     suite.report(f"check --witness: {wrong} random histories with a wrong answer", faults[:3] + few + more)
@@ -144,7 +150,7 @@ def pending(suite):
     addresses = [f"{worker} 2 9 addr 0 -> at 1001" for worker in range(1, 66)]
     store = "0 2 9 put 0 0 07 -> done"
     loads = [f"{worker} 3 8 get 0 0 1 -> bytes 07" for worker in range(1, 65)]
-    wrong = "line 3: no order explains at 1001; possible: at 1000"
+    wrong = "line 3: no order explains at 1001 of object 5 in cell 0, made at line 2; possible: at 1000"
     undecided = "undecided at line 67: more than 64 pending accesses to one object"
     for name, calls, verdict, *words in (
         ("64 pending calls with a wrong answer", addresses[:-1], wrong),
@@ -164,5 +170,6 @@ def possible_loads(suite):
         rows = ["history 2", "0 0 1 new 0 2 0 -> object 5 at 1000"]
         rows += [f"{worker} 2 9 put 0 0 0{worker} -> done" for worker in range(1, stores + 1)]
         history = suite.write("loads.history", lines([*rows, "99 3 4 get 0 0 1 -> bytes ff"]))
-        wanted = line(f"line {stores + 3}: no order explains bytes ff; possible if it took effect last: {named}{more}")
+        of = "of object 5 in cell 0, made at line 2"
+        wanted = line(f"line {stores + 3}: no order explains bytes ff {of}; possible if it took effect last: {named}{more}")
         suite.check(f"overlaps: a load among {stores} pending stores", 3, wanted, NOTHING, "check", history)

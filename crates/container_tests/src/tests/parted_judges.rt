@@ -1,10 +1,9 @@
 //! The judge of parts, compared with the timed judge of the whole object.
 ghost use Rattle.std.specs.Prelude.{◌<◌};
 
-use arrayvec::ArrayVec;
+use crate::tests::bytes::bytes_of;
 use history_object::{Access, ObjectAccesses, ObjectBytes, TimedJudge};
 use history_parts::PartedJudge;
-use model_words::MAX_BYTES;
 use std::alloc::Global;
 
 /// The number of bytes of the object.
@@ -32,23 +31,14 @@ impl Source {
     }
 }
 
-/// Returns up to 32 of these bytes.
-fn some(bytes: &[u8]) -> ArrayVec<u8, MAX_BYTES> {
-    let mut taken = ArrayVec::new();
-    for byte in bytes {
-        let _full = taken.try_push(*byte);
-    }
-    taken
+/// Returns a store of one byte. Returns `None` if an allocation fails.
+fn store(alloc: Global, off: u64, byte: u8) -> Option<Access> {
+    Some(Access::Store(off, bytes_of(alloc, &[byte])?))
 }
 
-/// Returns a store of one byte.
-fn store(off: u64, byte: u8) -> Access {
-    Access::Store(off, some(&[byte]))
-}
-
-/// Returns a load of one byte.
-fn load(off: u64, byte: u8) -> Access {
-    Access::Load(off, 1, some(&[byte]))
+/// Returns a load of one byte. Returns `None` if an allocation fails.
+fn load(alloc: Global, off: u64, byte: u8) -> Option<Access> {
+    Some(Access::Load(off, 1, bytes_of(alloc, &[byte])?))
 }
 
 /// The two judges, and the bytes if each access has its effect as it begins.
@@ -63,24 +53,25 @@ struct Pair {
 
 /// Begins a random access in both judges, which has its effect in the bytes at once. One of 40 loaded bytes is another
 /// one.
-fn begin(pair: &mut Pair, source: &mut Source, thread: usize) -> Option<()>
+fn begin(alloc: Global, pair: &mut Pair, source: &mut Source, thread: usize) -> Option<()>
     requires { thread < 4 }
 {
     let len = 1 + source.next(2) as usize;
     let off = source.next(LEN as u64 - 1) as usize;
     let stores = source.next(3) > 0;
-    let mut told = ArrayVec::new();
+    let mut answer = Vec::new(alloc);
     for byte in pair.bytes[off..off + len].iter_mut() {
         if stores {
             *byte = source.next(3) as u8;
         }
         let wrong = !stores && source.next(40) == 0;
-        let _full = told.try_push(*byte ^ wrong as u8);
+        answer.push(*byte ^ wrong as u8).ok()?;
     }
+    let bytes = bytes_of(alloc, answer.as_slice())?;
     let access = if stores {
-        Access::Store(off as u64, told)
+        Access::Store(off as u64, bytes)
     } else {
-        Access::Load(off as u64, len as u32, told)
+        Access::Load(off as u64, len as u32, bytes)
     };
     let number = pair.begun;
     pair.begun = number.wrapping_add(1);
@@ -118,7 +109,7 @@ fn judged(alloc: Global, seed: u64, steps: u32) -> Option<bool> {
     for _step in 0..steps {
         let thread = source.next(THREADS as u64) as usize;
         let Some(number) = pair.open[thread] else {
-            begin(&mut pair, &mut source, thread)?;
+            begin(alloc, &mut pair, &mut source, thread)?;
             continue;
         };
         pair.open[thread] = None;
@@ -158,11 +149,11 @@ fn races(alloc: Global, most: usize, last: u8) -> Option<bool> {
         if judge.is_open(1) || judge.is_open(2) {
             return None;
         }
-        judge.begin(1, store(off, 1)).ok()?;
+        judge.begin(1, store(alloc, off, 1)?).ok()?;
         if judge.is_open(2) {
             return None;
         }
-        judge.begin(2, store(off, 2)).ok()?;
+        judge.begin(2, store(alloc, off, 2)?).ok()?;
         for number in 1..3 {
             if !judge.is_open(number) || judge.end(alloc, number, most).ok()?.is_some() {
                 return None;
@@ -174,7 +165,7 @@ fn races(alloc: Global, most: usize, last: u8) -> Option<bool> {
             return None;
         }
         let byte = if off == 39 { last } else { 1 + (off % 2) as u8 };
-        judge.begin(3, load(off, byte)).ok()?;
+        judge.begin(3, load(alloc, off, byte)?).ok()?;
         if !judge.is_open(3) {
             return None;
         }
@@ -194,5 +185,45 @@ fn races_on_many_bytes_take_few_configurations(rt: HostRuntime) {
         (2, 1, None),
     ] {
         assert!(rt; races(rt.alloc(), most, last) == expected, "{most} {last}");
+    }
+}
+
+/// Returns a store of 4,096 bytes of this value from offset 100 on. Returns `None` if an allocation fails.
+fn long_store(alloc: Global, value: u8) -> Option<Access> {
+    let mut bytes = Vec::new(alloc);
+    for _byte in 0..4096 {
+        bytes.push(value).ok()?;
+    }
+    Some(Access::Store(100, bytes_of(alloc, bytes.as_slice())?))
+}
+
+/// Two stores of 4,096 bytes overlap. Then the last of these bytes is loaded. Returns whether the load is explained.
+fn long_race(alloc: Global, last: u8) -> Option<bool> {
+    let mut judge = PartedJudge::new(alloc, 5000).ok()?;
+    for number in 1..3 {
+        if judge.is_open(number) {
+            return None;
+        }
+        judge.begin(number, long_store(alloc, number as u8)?).ok()?;
+    }
+    for number in 1..3 {
+        if !judge.is_open(number) || judge.end(alloc, number, 6).ok()?.is_some() {
+            return None;
+        }
+    }
+    if judge.is_open(3) {
+        return None;
+    }
+    judge.begin(3, load(alloc, 4195, last)?).ok()?;
+    if !judge.is_open(3) {
+        return None;
+    }
+    Some(judge.end(alloc, 3, 6).ok()?.is_none())
+}
+
+#[test]
+fn long_stores_race(rt: HostRuntime) {
+    for (last, expected) in [(1, true), (2, true), (3, false)] {
+        assert!(rt; long_race(rt.alloc(), last) == Some(expected), "{last}");
     }
 }

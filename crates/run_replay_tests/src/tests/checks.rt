@@ -20,7 +20,7 @@ static IN_ORDER: &str =
 
 /// Histories that the reference memory rejects, in rows like that of `IN_ORDER`.
 static ILLEGAL: &str = "\
-the new byte and then the old one|history 2\n0 1 2 new 3 4 7 -> object 9 at 1000\n0 3 9 put 3 0 68 -> done\n1 4 5 get 3 0 1 -> bytes 68\n1 6 7 get 3 0 1 -> bytes 00\n|line 5: no order explains bytes 00; possible if it took effect last: bytes 68\n#\
+the new byte and then the old one|history 2\n0 1 2 new 3 4 7 -> object 9 at 1000\n0 3 9 put 3 0 68 -> done\n1 4 5 get 3 0 1 -> bytes 68\n1 6 7 get 3 0 1 -> bytes 00\n|line 5: no order explains bytes 00 of object 9 in cell 3, made at line 2; possible if it took effect last: bytes 68\n#\
 another byte|history 1\n0 new 3 4 7 -> object 9 at 1000\n1 put 3 1 6869 -> done\n2 get 3 1 2 -> bytes 6868\n0 oops\n|line 4: answer differs: bytes 6868, wanted bytes 6869; byte 2 was last stored at line 3\n";
 
 /// Texts that are no histories, in rows like that of `IN_ORDER`. The verdict names the line in which the text has its

@@ -53,6 +53,25 @@ loop-entry-preserved g c =
       taken = more_taken _ _ _ _ _ _ _ _ before come (c.in_ok-reason.ensures.taken (none_is _ c.in_default-2.is)) c.in_ok-reason.ensures.made;
     }
 
+-- the same where bytes of the entry are dropped, inline or allocated
+pub loop-entry-preserved-in_default-2 : goal.loop-entry-preserved-in_default-2
+loop-entry-preserved-in_default-2 g c =
+    let left = g.I.Source.remaining in
+    let before = c.loop-entry.invariant.taken in
+    let come = some_holds _ _ _ c.in-Some.is (c.in_ok-entry.ensures.entry (left c.args.input.now) before.entries before.come) in record {
+      open_input = c.in_ok-entry.ensures.ok;
+      taken = more_taken _ _ _ _ _ _ _ _ before come (c.in_ok-reason.ensures.taken (none_is _ c.in_default-2.is)) c.in_ok-reason.ensures.made;
+    }
+
+pub loop-entry-preserved-in_default-2-2 : goal.loop-entry-preserved-in_default-2-2
+loop-entry-preserved-in_default-2-2 g c =
+    let left = g.I.Source.remaining in
+    let before = c.loop-entry.invariant.taken in
+    let come = some_holds _ _ _ c.in-Some.is (c.in_ok-entry.ensures.entry (left c.args.input.now) before.entries before.come) in record {
+      open_input = c.in_ok-entry.ensures.ok;
+      taken = more_taken _ _ _ _ _ _ _ _ before come (c.in_ok-reason.ensures.taken (none_is _ c.in_default-2.is)) c.in_ok-reason.ensures.made;
+    }
+
 pub overflow_sub-result : goal.overflow_sub-result
 overflow_sub-result g c =
     let before = c.loop-entry.invariant.taken in

@@ -109,6 +109,43 @@ loop-call-preserved g c =
       };
     }
 
+-- the same where bytes of the call are dropped, inline or allocated
+pub loop-call-preserved-in_default-2 : goal.loop-call-preserved-in_default-2
+loop-call-preserved-in_default-2 g c =
+    let left = g.I.Source.remaining c.args.input.now in let left' = g.I.Source.remaining c.next.new.input in
+    let taken = c.loop-call.invariant.taken in
+    let next = subst (λ (o : Option TimedCall). IfSome o (HasNext c.next.new.self left left' taken.calls)) c.in-Some.is (c.in_ok-call.ensures.call left taken.calls taken.come) in
+    let line = next.line in let is = c.lines-number.ensures in
+    let none = subst (λ (o : Option CallVerdict). IsNone o → c.take.result ≡ Ok None) c.in_default-2.is c.in_ok-verdict.ensures.none refl in
+    let on = subst (λ (r : Result (Option CallVerdict) Stop). IfOk r (λ found. IsNone found → (calls : List Call) → length calls ≡ c.lines-number.result - 2 → IsKept c.loop-call.timeline calls
+    → is_in_order calls (plain_call c.in-Some.call) ≡ true → IsKept c.take.new.self (calls ++ plain_call c.in-Some.call ∷ []))) none c.take.ensures.taken in
+    record {
+      open_input = c.in_ok-call.ensures.ok;
+      taken = record {
+        calls = taken.calls ++ plain_call c.in-Some.call ∷ [];
+        come = next.come;
+        kept = on refl taken.calls (omega (arith, line, is)) taken.kept next.in_order;
+      };
+    }
+
+pub loop-call-preserved-in_default-2-2 : goal.loop-call-preserved-in_default-2-2
+loop-call-preserved-in_default-2-2 g c =
+    let left = g.I.Source.remaining c.args.input.now in let left' = g.I.Source.remaining c.next.new.input in
+    let taken = c.loop-call.invariant.taken in
+    let next = subst (λ (o : Option TimedCall). IfSome o (HasNext c.next.new.self left left' taken.calls)) c.in-Some.is (c.in_ok-call.ensures.call left taken.calls taken.come) in
+    let line = next.line in let is = c.lines-number.ensures in
+    let none = subst (λ (o : Option CallVerdict). IsNone o → c.take.result ≡ Ok None) c.in_default-2.is c.in_ok-verdict.ensures.none refl in
+    let on = subst (λ (r : Result (Option CallVerdict) Stop). IfOk r (λ found. IsNone found → (calls : List Call) → length calls ≡ c.lines-number.result - 2 → IsKept c.loop-call.timeline calls
+    → is_in_order calls (plain_call c.in-Some.call) ≡ true → IsKept c.take.new.self (calls ++ plain_call c.in-Some.call ∷ []))) none c.take.ensures.taken in
+    record {
+      open_input = c.in_ok-call.ensures.ok;
+      taken = record {
+        calls = taken.calls ++ plain_call c.in-Some.call ∷ [];
+        come = next.come;
+        kept = on refl taken.calls (omega (arith, line, is)) taken.kept next.in_order;
+      };
+    }
+
 pub overflow_sub-count : goal.overflow_sub-count
 overflow_sub-count g c =
     let left = g.I.Source.remaining c.args.input.now in let left' = g.I.Source.remaining c.next.new.input in

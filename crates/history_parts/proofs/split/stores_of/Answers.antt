@@ -6,5 +6,5 @@ use Rattle.history_parts.proofs.split.stores_of.Goals as goal
 pub loop-place-preserved : goal.loop-place-preserved
 loop-place-preserved c = λ access is. elim (c.in_ok-add.ensures access is) [
   | inl before ↦ c.loop-place.invariant access before
-  | inr same ↦ subst (λ (a : Access). IsStoreTo c.args.range.off c.args.range.len a) same c.store_in.ensures
+  | inr same ↦ subst (λ (a : Access). IsStoreTo c.args.range.off c.args.range.len a) same c.in_ok-store.ensures
 ]

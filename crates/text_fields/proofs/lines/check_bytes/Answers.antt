@@ -10,4 +10,4 @@ pub returns : goal.returns
 returns c =
     let tested : c.all.result ≡ list_all is_printable c.args.line.now =
     all_from_yields_List is_printable _ _ c.all.result c.all.ensures.ran (YieldsList-from_slice c.args.line.now cc) (λ x b q k. search (rules, tests)) in
-    sym (bytes_taken c.args.line.now c.if-line-gt-MAX_LINE_BYTES.false (sym tested ∙ c.if-not-all.false))
+    sym (bytes_taken c.args.most c.args.line.now c.if-line-most.false (sym tested ∙ c.if-not-all.false))

@@ -1,14 +1,10 @@
-use Rattle.std.proofs.Common.{◌≡◌, ◌+◌, ℕ, List, length, Some, Ok, Err, ap, sym, subst, arith, ◌∙◌}
-use Rattle.std.specs.List.{slice_range}
-use Rattle.model_memory.specs.Memory.{overwritten, with_object}
+use Rattle.std.proofs.Common.{◌≡◌, Err, ap, sym, arith, ◌∙◌}
 use Rattle.model_memory.specs.Plain.{plain}
 use Rattle.model_words.specs.declared.commands.Command.TheVariants.{Copy as CopyBytes}
-use Rattle.model_words.specs.declared.commands.Reply.TheVariants.{Done}
 use Rattle.model_words.specs.declared.refusals.Refusal.{Refusal}
 use Rattle.model_history.specs.Recorded.{Recorded}
 use Rattle.history_reading.proofs.Readings.{handed_on}
 use Rattle.history_in_order.specs.Stands.{Stands}
-use Rattle.history_in_order.specs.Objects.{LiveObject}
 use Rattle.history_in_order.proofs.Commands.{copy_done, copy_freed_from, copy_freed_to, inside, range_length}
 use Rattle.history_in_order.proofs.Roots.{held_root, object_is, root_is}
 use Rattle.history_in_order.proofs.memory.Tracked.copied.Goals as goal
@@ -43,17 +39,13 @@ returns-clause-copied c =
     let out_of = c.in_ok-out_of.out_of.now in
     let fits = sym c.if-ends_outside.ensures in
     let fits' = sym c.if-ends_outside-2.ensures in
-    let bytes : c.load.result.items ≡ slice_range out_of.object.bytes c.args.from.1 (c.args.from.1 + c.args.len)
-    = c.load.ensures ∙ ap (λ (o : LiveObject). slice_range o.object.bytes c.args.from.1 (c.args.from.1 + c.args.len)) c.out_of.view_is in
     let within = inside into.object _ _ fits in (
       into,
       c.in_ok-number.ensures.live,
-      omega (arith, (ap (λ (all : List ℕ). length all) bytes ∙ range_length _ _ _ (inside out_of.object _ _ fits')), within),
+      omega (arith, range_length _ _ _ (inside out_of.object _ _ fits'), within),
       λ r st.
-          subst (λ (all : List ℕ). plain r.memory 0 (CopyBytes c.args.to.0 c.args.to.1 c.args.from.0 c.args.from.1 c.args.len)
-          ≡ Ok (Done, with_object r.memory target (Some (record into.object { bytes = overwritten into.object.bytes c.args.to.1 all })))) (sym bytes)
-          (copy_done _ _ _ _ _ _ _ _ _ _
+          copy_done _ _ _ _ _ _ _ _ _ _
           (held_root c.args.self.now r _ _ _ st c.in_ok-target.ensures.held c.in_ok-number.ensures.number)
           (held_root c.args.self.now r _ _ _ st c.in_ok-source.ensures.held c.in_ok-out_of.ensures.number)
-          (object_is c.args.self.now r _ _ st c.in_ok-number.ensures.live) (object_is c.args.self.now r _ _ st c.in_ok-out_of.ensures.live) fits fits'),
+          (object_is c.args.self.now r _ _ st c.in_ok-number.ensures.live) (object_is c.args.self.now r _ _ st c.in_ok-out_of.ensures.live) fits fits',
     )

@@ -1,6 +1,5 @@
 use Rattle.std.proofs.Common.{List, ap, subst, sym}
 use Rattle.std.specs.Prelude.{IfOk, IfSome, IsNone}
-use Rattle.model_words.specs.declared.commands.Command.TheVariants.{New}
 use Rattle.model_memory.specs.Plain.{Entry}
 use Rattle.text_fields.specs.Commands.{plain_command}
 use Rattle.text_words.specs.RecordedWords.{plain_entry, plain_reply}

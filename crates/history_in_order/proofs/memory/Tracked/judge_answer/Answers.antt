@@ -22,8 +22,8 @@ returns-clause-told c =
     told_answer c.args.self.now c.answer.new.self command reply wanted byte c.difference.result c.requires.other c.in_ok-wanted.ensures.answered
     (byte_told c.args.self.now c.answer.new.self command reply wanted byte c.in_ok-wanted.ensures.answered c.answer.ensures.loads c.in_ok-wanted.ensures.changes
     c.different_byte-byte.ensures.byte c.different_byte-byte.ensures.none)
-    (subst (λ (a : RecordedReply). IsDifference a wanted byte c.difference.result) c.copied.ensures c.difference.ensures)
+    (subst (λ (a : RecordedReply). IsDifference a wanted byte c.difference.result) c.in_ok-copied.ensures c.difference.ensures)
 
 pub returns-clause-maker : goal.returns-clause-maker
 returns-clause-maker c = λ entries.
-    no_line c.copied.result c.in_ok-wanted.wanted c.different_byte-byte.result c.difference.result entries c.difference.ensures
+    no_line c.in_ok-copied.field-0 c.in_ok-wanted.wanted c.different_byte-byte.result c.difference.result entries c.difference.ensures

@@ -7,8 +7,8 @@ use Rattle.text_devices.proofs.LineSteps.{handed_on}
 use Rattle.history_overlaps.proofs.UnexplainedCalls.{told_at_end}
 use Rattle.history_overlaps.proofs.life.Life.end.Goals as goal
 
-pub returns-in-Some-2-clause-ended : goal.returns-in-Some-2-clause-ended
-returns-in-Some-2-clause-ended c = record {
+pub returns-in_ok-unexplained-in-Some-2-clause-ended : goal.returns-in_ok-unexplained-in-Some-2-clause-ended
+returns-in_ok-unexplained-in-Some-2-clause-ended c = record {
   first = c.in-Some.judge;
   is_first = c.in-Some.is;
   was_open = c.is_open.ensures.0 (let on = c.if-not-is_open.false in cc on);
@@ -27,7 +27,7 @@ returns-in_err-end-clause-stopped c =
     (cannot_end c.args.self.now c.in-Some.judge c.args.number c.args.most fault c.in-Some.is (λ is. c.in_err-end.ensures.many (ap (λ (e : JudgeFault). Err e) is))
     (λ is. c.in_err-end.ensures.not_full (ap (λ (e : JudgeFault). Err e) is)))
 
-pub returns-in-Some-2-clause-told : goal.returns-in-Some-2-clause-told
-returns-in-Some-2-clause-told c =
-    told_at_end c.args.self.now c.in-Some.judge c.args.number _ c.in-Some-2.refutation c.unexplained_access.result c.in-Some.is c.in-Some-2.is c.in_ok-end.ensures.refuted
-    c.unexplained_access.ensures
+pub returns-in_ok-unexplained-in-Some-2-clause-told : goal.returns-in_ok-unexplained-in-Some-2-clause-told
+returns-in_ok-unexplained-in-Some-2-clause-told c =
+    told_at_end c.args.self.now c.in-Some.judge c.args.number _ c.in-Some-2.refutation c.in_ok-unexplained-in-Some-2.unexplained c.in-Some.is c.in-Some-2.is c.in_ok-end.ensures.refuted
+    c.in_ok-unexplained-in-Some-2.ensures.by c.in_ok-unexplained-in-Some-2.ensures.object

@@ -21,7 +21,7 @@ returns-in_err-read_line-clause-stopped g c = λ left calls first.
 pub returns-then-not-branch-clause-ended : goal.returns-then-not-branch-clause-ended
 returns-then-not-branch-clause-ended g c = λ left calls first _.
     let old = c.loop-self.self in
-    let new : CallInput = record { lines = c.read_line.new.self; order = old.order } in
+    let new : CallInput = record { lines = c.read_line.new.self; order = old.order; alloc = old.alloc } in
     let before = g.I.Source.remaining c.loop-self.input in
     let left_now = g.I.Source.remaining c.read_line.new.input in
     let come = c.loop-self.invariant.come left calls first in
@@ -31,7 +31,7 @@ returns-then-not-branch-clause-ended g c = λ left calls first _.
 pub returns-in_err-call-clause-stopped : goal.returns-in_err-call-clause-stopped
 returns-in_err-call-clause-stopped g c = λ left calls first.
     let old = c.loop-self.self in
-    let new : CallInput = record { lines = c.read_line.new.self; order = old.order } in
+    let new : CallInput = record { lines = c.read_line.new.self; order = old.order; alloc = old.alloc } in
     let before = g.I.Source.remaining c.loop-self.input in
     let left_now = g.I.Source.remaining c.read_line.new.input in
     let come = c.loop-self.invariant.come left calls first in
@@ -45,7 +45,7 @@ returns-in_err-call-clause-stopped g c = λ left calls first.
 pub returns-in-Some-clause-call : goal.returns-in-Some-clause-call
 returns-in-Some-clause-call g c = λ left calls first.
     let old = c.loop-self.self in
-    let mid : CallInput = record { lines = c.read_line.new.self; order = old.order } in
+    let mid : CallInput = record { lines = c.read_line.new.self; order = old.order; alloc = old.alloc } in
     let new = c.take_line.new.self in
     let before = g.I.Source.remaining c.loop-self.input in
     let left_now = g.I.Source.remaining c.read_line.new.input in
@@ -62,7 +62,7 @@ returns-in-Some-clause-call g c = λ left calls first.
 pub loop-self-preserved : goal.loop-self-preserved
 loop-self-preserved g c =
     let old = c.loop-self.self in
-    let mid : CallInput = record { lines = c.read_line.new.self; order = old.order } in
+    let mid : CallInput = record { lines = c.read_line.new.self; order = old.order; alloc = old.alloc } in
     let new = c.take_line.new.self in
     let before = g.I.Source.remaining c.loop-self.input in
     let left_now = g.I.Source.remaining c.read_line.new.input in

@@ -12,4 +12,4 @@ invariant-loop-self g l = record {
 }
 
 abbrev pub decreases-loop-self : goal.decreases-loop-self
-decreases-loop-self g l = 2 * (1024 - length l.self.line.bytes.items) + (1 - length l.self.pending)
+decreases-loop-self g l = 2 * (16384 - length l.self.line.bytes.items) + (1 - length l.self.pending)

@@ -1,13 +1,13 @@
 use Rattle.std.proofs.Common.{inr, refl}
 use Rattle.run_program.specs.Certificates.{HasToldCertificateOf}
 use Rattle.run_program.proofs.TwoClauses.{of_both}
-use Rattle.run_program.proofs.certificate.write_certificate_of.Goals as goal
+use Rattle.run_program.proofs.certificate.write_certificate_for.Goals as goal
 
 pub returns-clause-told : goal.returns-clause-told
 returns-clause-told g c =
-    let judgement = c.in_ok-judgement.judgement in
+    let judgement = c.args.judgement.now in
     let written = g.O.Sink.written c.args.output.now in let written' = g.O.Sink.written c.write_judgement.new.output in
-    let judged = c.in_ok-judgement.ensures.judged in
+    let judged = c.requires.judged in
     of_both c.write_judgement.result _ _ (HasToldCertificateOf c.args.args.now c.args.text.now written written') c.write_judgement.ensures.wrote
     c.write_judgement.ensures.status
     (λ wrote status is. inr (record {

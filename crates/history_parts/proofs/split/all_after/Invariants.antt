@@ -1,5 +1,5 @@
 use Rattle.history_parts.specs.Splits.{AreAfter}
-use Rattle.history_parts.proofs.split.without.Given as goal
+use Rattle.history_parts.proofs.split.all_after.Given as goal
 
 abbrev pub invariant-loop-place : goal.invariant-loop-place
 invariant-loop-place l = AreAfter l.kept l.rest
