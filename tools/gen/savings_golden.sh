@@ -19,6 +19,7 @@
 #   above 2,048 bytes.
 # - more_with_meshing, large, empty, no_bytes, freed_again: written by hand. In the first, the meshing heap ends with
 #   more pages.
+# - teardown: printed by a loop. Of 96 objects three of four are freed, and then the rest.
 #
 # In the recorded histories cells and addresses are renumbered to shorten the lines. All but no_bytes and freed_again
 # are legal for `meshrun check`.

@@ -12,7 +12,7 @@ use Rattle.clap.specs.declared.parser.matches.Found.{Found}
 use Rattle.clap.proofs.OnLiterals.{clap_on_literals}
 use Rattle.clap.proofs.WalkLemmas.{first_value-rows}
 use Rattle.run_command_line.specs.Conditions.{ConditionTexts, no_condition}
-use Rattle.run_command_line.specs.CommandLine.{Asked, IsSaidOf, asked, asked_by, asked_in, asked_of, is_taken, kinds_of, check_of, draw_html_of, draw_of, draw_text_of, explore_of, live_of, meshrun_app, conditions_asked, conditions_found, conditions_in, explains_asked, explains_found, explains_in, replay_echo_of, replay_history_of, replay_of, savings_of, tells_all, tells_answer, tells_outcome, tells_verdict, threads_history_of, threads_of, threads_report_of}
+use Rattle.run_command_line.specs.CommandLine.{Asked, IsSaidOf, asked, asked_by, asked_in, asked_of, is_taken, kinds_of, check_of, csv, draw_html_of, draw_of, draw_text_of, every, explore_of, live_of, meshrun_app, plot, share, table, conditions_asked, conditions_found, conditions_in, explains_asked, explains_found, explains_in, replay_echo_of, replay_history_of, replay_of, savings_of, tells_all, tells_answer, tells_outcome, tells_verdict, threads_history_of, threads_of, threads_report_of}
 
 -- the command line is one whose matches and faults `clap` tells
 pub is_told : is_simple_and_free meshrun_app ≡ true
@@ -247,23 +247,26 @@ two_tellings_ask_nothing :
 unfolding clap_on_literals asked
 two_tellings_ask_nothing = (refl, refl, refl, refl, refl)
 
--- a history is followed with a round behind every 10,000 frees, 64 rounds of tries, words of the seed 1, and figures of
--- all calls; or with what is given
+-- a history is followed with a round behind an eighth of the live objects in frees, at most 8 members, 64 rounds of
+-- tries, words of the seed 1, and figures of all calls; options say otherwise
 savings_are_asked :
     Asks (codes "savings a.history")
-    (savings_of (codes "a.history") (record { every = 10000; probe = 64; seed = Some 1; from = 1; to = 4294967295; is_plot = false }))
+    (savings_of (codes "a.history") (record { rounds = share 8; members = 8; probe = 64; seed = Some 1; from = 1; to = 4294967295; form = table }))
     × Asks (codes "savings --svg --to=9 - --from 9 --seed=18446744073709551615 --probe=0 --every 1")
-    (savings_of (codes "-") (record { every = 1; probe = 0; seed = Some 18446744073709551615; from = 9; to = 9; is_plot = true }))
-    × Asks (codes "savings a.history --first-fit")
-    (savings_of (codes "a.history") (record { every = 10000; probe = 64; seed = None; from = 1; to = 4294967295; is_plot = false }))
+    (savings_of (codes "-") (record { rounds = every 1; members = 8; probe = 0; seed = Some 18446744073709551615; from = 9; to = 9; form = plot }))
+    × Asks (codes "savings a.history --first-fit --share=1000 --members 1 --csv")
+    (savings_of (codes "a.history") (record { rounds = share 1000; members = 1; probe = 64; seed = None; from = 1; to = 4294967295; form = csv }))
 unfolding clap_on_literals asked is_taken
 savings_are_asked = ((refl, refl), (refl, refl), (refl, refl))
 
--- a seed beside `--first-fit`, and figures that end before they begin, ask for nothing
+-- a seed beside `--first-fit`, two rules of rounds, two forms, and figures that end before they begin, ask for nothing
 apart_asks_nothing :
-    (asked (spoken (codes "savings a.history --seed=1 --first-fit")) ≡ None) × (asked (spoken (codes "savings a.history --from=2 --to=1")) ≡ None)
+    (asked (spoken (codes "savings a.history --seed=1 --first-fit")) ≡ None)
+    × (asked (spoken (codes "savings a.history --every 1 --share 1")) ≡ None)
+    × (asked (spoken (codes "savings a.history --svg --csv")) ≡ None)
+    × (asked (spoken (codes "savings a.history --from=2 --to=1")) ≡ None)
 unfolding clap_on_literals asked
-apart_asks_nothing = (refl, refl)
+apart_asks_nothing = (refl, refl, refl, refl)
 
 -- the flags have no value, 17 threads make no search, a worker waits behind 1 to 65,536 calls, there is no line 0, a
 -- session has no file, a picture isn't of a history, a mesh has to be given, no round comes behind 0 frees, and an

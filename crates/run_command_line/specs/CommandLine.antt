@@ -26,6 +26,10 @@ use Rattle.run_command_line.specs.declared.explore_args.Told.{Told}
 use Rattle.run_command_line.specs.declared.explore_args.Told.TheVariants.{All, Answer, Outcome, Verdict}
 use Rattle.explore_interleavings.specs.declared.pair.MeshPair.{MeshPair}
 use Rattle.run_command_line.specs.declared.live_args.LiveArgs.{LiveArgs}
+use Rattle.run_command_line.specs.declared.savings_args.FiguresForm.{FiguresForm}
+use Rattle.run_command_line.specs.declared.savings_args.FiguresForm.TheVariants.{Csv, Plot, Table}
+use Rattle.run_command_line.specs.declared.savings_args.RoundsAsked.{RoundsAsked}
+use Rattle.run_command_line.specs.declared.savings_args.RoundsAsked.TheVariants.{Every, Share}
 use Rattle.run_command_line.specs.declared.savings_args.SavingsArgs.{SavingsArgs}
 use Rattle.run_command_line.specs.declared.threads_args.PacedArgs.{PacedArgs}
 use Rattle.run_command_line.specs.declared.threads_args.ThreadsArgs.{ThreadsArgs}
@@ -100,12 +104,14 @@ abbrev pub check_app : App
 check_app = with_rule (with_rule (with_rule (with_rule (new_app (codes "check")) file_rule) (number_or (codes "configurations") 1 4294967295 (codes "100000")))
     (flag_rule (codes "order"))) (flag_rule (codes "witness"))
 
--- `savings FILE [--every F] [--probe T] [--seed S] [--first-fit] [--from CALL] [--to CALL] [--svg]`
+-- `savings FILE [--every F] [--share K] [--members M] [--probe T] [--seed S] [--first-fit] [--from CALL] [--to CALL]
+-- [--svg] [--csv]`
 abbrev pub savings_app : App
-savings_app = with_rule (with_rule (with_rule (with_rule (with_rule (with_rule (with_rule (with_rule (new_app (codes "savings")) file_rule)
-    (number_or (codes "every") 1 4294967295 (codes "10000"))) (number_or (codes "probe") 0 64 (codes "64")))
+savings_app = with_rule (with_rule (with_rule (with_rule (with_rule (with_rule (with_rule (with_rule (with_rule (with_rule (with_rule
+    (new_app (codes "savings")) file_rule) (number_rule (codes "every") 1 4294967295)) (number_rule (codes "share") 1 1000))
+    (number_or (codes "members") 1 8 (codes "8"))) (number_or (codes "probe") 0 64 (codes "64")))
     (number_rule (codes "seed") 0 18446744073709551615)) (flag_rule (codes "first-fit"))) (number_or (codes "from") 1 4294967295 (codes "1")))
-    (number_or (codes "to") 1 4294967295 (codes "4294967295"))) (flag_rule (codes "svg"))
+    (number_or (codes "to") 1 4294967295 (codes "4294967295"))) (flag_rule (codes "svg"))) (flag_rule (codes "csv"))
 
 -- the program without its subcommands. It has a version, requires a subcommand, and shows its help if there are no
 -- words. The version's text isn't part of the model of `clap`
@@ -118,9 +124,13 @@ bare_app = let app = new_app (codes "meshrun") in
 abbrev pub runs_app : App
 runs_app = with_subcommand (with_subcommand (with_subcommand (with_subcommand bare_app replay_app.top) threads_app.top) draw_app.top) live_app.top
 
--- with those that judge: `meshrun explore FILE ..`, `meshrun check FILE ..` and `meshrun savings FILE ..`
+-- with those that judge: `meshrun explore FILE ..` and `meshrun check FILE ..`
+abbrev pub judging_app : App
+judging_app = with_subcommand (with_subcommand runs_app explore_app.top) check_app.top
+
+-- with the one that compares heaps: `meshrun savings FILE ..`
 abbrev pub meshrun_app : App
-meshrun_app = with_subcommand (with_subcommand (with_subcommand runs_app explore_app.top) check_app.top) savings_app.top
+meshrun_app = with_subcommand judging_app savings_app.top
 
 -- ---- what words ask for
 
@@ -186,16 +196,29 @@ pub record Checked : Type 0 where
   pub is_ordered : Bool
   pub is_witnessed : Bool
 
--- how `savings` follows a recorded history on two heaps. `every` is the number of freed objects between two rounds of
--- meshing, and `probe` the most rounds of tries in a search. `seed` gives the words of the objects; without a seed each
--- word is 0. The figures are of the calls `from` to `to`. If `is_plot` is true, a plot is printed instead of the table
+-- when a round of meshing follows the free of a small object: after this many frees since the last round, or after at
+-- least 64 frees, if their number, times this one, is at least the number of live small objects
+pub data Rounds : Type 0 where
+  every : ℕ → Rounds
+  share : ℕ → Rounds
+
+-- the form in which figures are printed
+pub data Form : Type 0 where
+  table : Form
+  plot : Form
+  csv : Form
+
+-- how `savings` follows a recorded history on two heaps. `rounds` says when rounds of meshing are made, `members` is
+-- the most members that a mesh may give a group, and `probe` the most rounds of tries in a search. `seed` gives the
+-- words of the objects; without a seed each word is 0. The figures are of the calls `from` to `to`
 pub record Compared : Type 0 where
-  pub every : ℕ
+  pub rounds : Rounds
+  pub members : ℕ
   pub probe : ℕ
   pub seed : Option ℕ
   pub from : ℕ
   pub to : ℕ
-  pub is_plot : Bool
+  pub form : Form
 
 -- what the program is asked for. `check_of` and `savings_of` have the path of a recorded history, the others but
 -- `live_of` the path of a job file:
@@ -424,6 +447,31 @@ seed_by first_fit rows =
 abbrev pub seed_in : List Row → Option (Option ℕ)
 seed_in rows = option_and_then (λ first_fit. seed_by first_fit rows) (flag_in (codes "first-fit") rows)
 
+-- when rounds are made: as the given option says, or by the share 8 if none is given. Both options exclude each other
+abbrev pub rounds_by : Option ℕ → Option ℕ → Option Rounds
+rounds_by (Some frees) (Some part) = None
+rounds_by (Some frees) None = Some (every frees)
+rounds_by None (Some part) = Some (share part)
+rounds_by None None = Some (share 8)
+
+-- when rounds are made according to the matches of `savings`
+abbrev pub rounds_in : List Row → Option Rounds
+rounds_in rows =
+    option_and_then (λ frees. option_and_then (λ part. rounds_by frees part) (given_in (codes "share") 1 1000 rows))
+    (given_in (codes "every") 1 4294967295 rows)
+
+-- the form that the flags for a plot and for comma-separated values ask for. Both exclude each other
+abbrev pub form_by : Bool → Bool → Option Form
+form_by true true = None
+form_by true false = Some plot
+form_by false true = Some csv
+form_by false false = Some table
+
+-- the form of the figures according to the matches of `savings`
+abbrev pub form_in : List Row → Option Form
+form_in rows =
+    option_and_then (λ is_plot. option_and_then (λ is_csv. form_by is_plot is_csv) (flag_in (codes "csv") rows)) (flag_in (codes "svg") rows)
+
 -- the arguments of `savings`, if `from` is at most `to`
 abbrev pub in_order : Compared → Option Compared
 in_order compared = if nat_le compared.from compared.to then Some compared else None
@@ -438,10 +486,10 @@ checked_in rows =
 -- what `savings` asks for according to its matches
 abbrev pub compared_in : List Row → Option Compared
 compared_in rows =
-    option_and_then (λ every. option_and_then (λ probe. option_and_then (λ seed. option_and_then (λ from. option_and_then (λ to. option_and_then (λ is_plot.
-    in_order (record { every = every; probe = probe; seed = seed; from = from; to = to; is_plot = is_plot }))
-    (flag_in (codes "svg") rows)) (number_in (codes "to") 1 4294967295 rows)) (number_in (codes "from") 1 4294967295 rows)) (seed_in rows))
-    (number_in (codes "probe") 0 64 rows)) (number_in (codes "every") 1 4294967295 rows)
+    option_and_then (λ rounds. option_and_then (λ members. option_and_then (λ probe. option_and_then (λ seed. option_and_then (λ from. option_and_then (λ to.
+    option_and_then (λ form. in_order (record { rounds = rounds; members = members; probe = probe; seed = seed; from = from; to = to; form = form }))
+    (form_in rows)) (number_in (codes "to") 1 4294967295 rows)) (number_in (codes "from") 1 4294967295 rows)) (seed_in rows))
+    (number_in (codes "probe") 0 64 rows)) (number_in (codes "members") 1 8 rows)) (rounds_in rows)
 
 -- the sizes of a session in the matches of `live`
 abbrev pub sizes_in : List Row → Option SessionSizes
@@ -550,9 +598,28 @@ explored_of conditions args =
 abbrev pub checked_of : CheckArgs → Checked
 checked_of args = record { configurations = args.configurations; is_ordered = args.is_ordered; is_witnessed = args.is_witnessed }
 
+-- when rounds are made, and the form of the figures, in parsed arguments for `savings`
+abbrev pub rounds_of : RoundsAsked → Rounds
+rounds_of (Every frees) = every frees
+rounds_of (Share part) = share part
+
+abbrev pub form_of : FiguresForm → Form
+form_of Table = table
+form_of Plot = plot
+form_of Csv = csv
+
 -- the comparison in parsed arguments for `savings`
 abbrev pub compared_of : SavingsArgs → Compared
-compared_of args = record { every = args.every; probe = args.probe; seed = args.seed; from = args.from; to = args.to; is_plot = args.is_plot }
+compared_of args =
+    record {
+      rounds = rounds_of args.rounds;
+      members = args.members;
+      probe = args.probe;
+      seed = args.seed;
+      from = args.from;
+      to = args.to;
+      form = form_of args.form;
+    }
 
 -- the sizes of parsed arguments for `live`
 abbrev pub sizes_of : LiveArgs → SessionSizes

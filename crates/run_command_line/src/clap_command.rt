@@ -2,10 +2,11 @@
 ghost use Rattle.std.specs.Prelude.{◌≡◌, IfOk};
 ghost use Rattle.clap.specs.Words.{app_of, rule_of};
 ghost use Rattle.run_command_line.specs.Subcommands.{argument_rule, subcommand_app, with_subcommands};
-ghost use Rattle.run_command_line.specs.CommandLine.{bare_app, flag_rule, mesh_rule, meshrun_app, number_rule, runs_app, text_rule};
+ghost use Rattle.run_command_line.specs.CommandLine.{bare_app, flag_rule, judging_app, mesh_rule, meshrun_app, number_rule, runs_app, text_rule};
 
 use crate::options::{
-    Argument, FILE, GROUPS, JUDGEMENTS, MESH, NumberOption, RUNS, Subcommand, TextOption,
+    Argument, COMPARISONS, FILE, GROUPS, JUDGEMENTS, MESH, NumberOption, RUNS, Subcommand,
+    TextOption,
 };
 use clap::builder::ValueParser;
 use clap::{Arg, ArgAction, Command};
@@ -30,6 +31,15 @@ Exit statuses:
 /// failure.
 pub(crate) fn meshrun_command<'a>(alloc: Global) -> Result<Command<'a>, AllocError>
     ensures { IfOk result (λ command. app_of command ≡ meshrun_app) }
+{
+    let command = judging_command(alloc)?;
+    with_subcommands(alloc, command, COMPARISONS)
+}
+
+/// Returns the program's `clap` command, with the subcommands that run a heap and those that judge. The only error is
+/// an allocation failure.
+fn judging_command<'a>(alloc: Global) -> Result<Command<'a>, AllocError>
+    ensures { IfOk result (λ command. app_of command ≡ judging_app) }
 {
     let command = runs_command(alloc)?;
     with_subcommands(alloc, command, JUDGEMENTS)

@@ -43,7 +43,7 @@ const MANY_MESHES: &str = "the argument '--mesh <SRC:DST>' cannot be used more t
 
 /// The error message if options of `savings` can't be combined.
 const UNREAD_SAVINGS: &str =
-    "--seed and --first-fit exclude each other, and --from is at most --to";
+    "--every and --share, --seed and --first-fit, and --svg and --csv exclude each other, and --from is at most --to";
 
 /// Returns the name of the program for usage lines. As in usage lines of `clap`, the first word is a path, and the name
 /// is the last part of this path. Without a first word, the name is `meshrun`.

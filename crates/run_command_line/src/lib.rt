@@ -41,7 +41,7 @@ pub use explore_interleavings::MeshPair;
 pub use live_args::LiveArgs;
 pub use meshes::Meshes;
 pub use requested::Request;
-pub use savings_args::SavingsArgs;
+pub use savings_args::{FiguresForm, RoundsAsked, SavingsArgs};
 pub use stop::{Stop, unread_words};
 pub use texts::Texts;
 pub use threads_args::{PacedArgs, ThreadsArgs};

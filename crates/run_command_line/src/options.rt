@@ -24,6 +24,9 @@ pub(crate) const FIRST_FIT: &str = "first-fit";
 /// The name of the flag that asks for a plot.
 pub(crate) const SVG: &str = "svg";
 
+/// The name of the flag that asks for comma-separated values.
+pub(crate) const CSV: &str = "csv";
+
 /// The name of the flag that asks for an order of effects instead of a verdict.
 pub(crate) const ORDER: &str = "order";
 
@@ -322,6 +325,30 @@ const EVERY_OPTION: NumberOption = NumberOption {
     help: "Mesh after every F frees of objects of up to 2048 bytes, 1 to 4294967295",
 };
 
+pub(crate) const SHARE: NumberRange = NumberRange {
+    name: "share",
+    least: 1,
+    most: 1000,
+};
+
+const SHARE_OPTION: NumberOption = NumberOption {
+    range: SHARE,
+    value: "K",
+    help: "Mesh after at least 64 frees that are a K-th of the live objects of up to 2048 bytes, 1 to 1000; 8 by default",
+};
+
+pub(crate) const MEMBERS: NumberRange = NumberRange {
+    name: "members",
+    least: 1,
+    most: 8,
+};
+
+const MEMBERS_OPTION: NumberOption = NumberOption {
+    range: MEMBERS,
+    value: "M",
+    help: "The most spans that meshes put on one physical span, 1 to 8; 1 meshes nothing",
+};
+
 pub(crate) const OBJECT_SEED: NumberRange = NumberRange {
     name: "seed",
     least: 0,
@@ -518,7 +545,9 @@ pub(crate) const SAVINGS: Subcommand = Subcommand {
     example: "Example: meshrun savings histories/savings/shell_cache.history --every 50",
     arguments: &[
         Argument::File(HISTORY_FILE),
-        Argument::Default(EVERY_OPTION, "10000"),
+        Argument::Optional(EVERY_OPTION),
+        Argument::Optional(SHARE_OPTION),
+        Argument::Default(MEMBERS_OPTION, "8"),
         Argument::Default(PROBE_OPTION, "64"),
         Argument::Optional(OBJECT_SEED_OPTION),
         Argument::Flag(
@@ -528,6 +557,10 @@ pub(crate) const SAVINGS: Subcommand = Subcommand {
         Argument::Default(FIRST_CALL_OPTION, "1"),
         Argument::Default(LAST_CALL_OPTION, "4294967295"),
         Argument::Flag(SVG, "Print a plot as an SVG picture instead of the table"),
+        Argument::Flag(
+            CSV,
+            "Print the numbers of each interval of the plot, as comma-separated values",
+        ),
     ],
 };
 
@@ -568,5 +601,7 @@ pub(crate) const JUDGEMENTS: &[Subcommand] = &[
             ),
         ],
     },
-    SAVINGS,
 ];
+
+/// The subcommands that compare heaps, in the order in which the help shows them, behind those that judge.
+pub(crate) const COMPARISONS: &[Subcommand] = &[SAVINGS];

@@ -2,12 +2,18 @@
 use Rattle.std.specs.Prelude.{◌≡◌, ◌<◌, ◌≤◌, ◌⊎◌, ℕ, Bool, if◌then◌else◌, List, ◌++◌, Option, Some, None, codes, decimal}
 use Rattle.std.specs.Io.KnownBytes.{Appends, Keeps}
 use Rattle.model_jobs.specs.Texts.{ended}
+use Rattle.run_command_line.specs.declared.savings_args.FiguresForm.{FiguresForm}
+use Rattle.run_command_line.specs.declared.savings_args.FiguresForm.TheVariants.{Csv as CsvAsked, Plot as PlotAsked, Table as TableAsked}
+use Rattle.run_command_line.specs.declared.savings_args.RoundsAsked.{RoundsAsked}
+use Rattle.run_command_line.specs.declared.savings_args.RoundsAsked.TheVariants.{Every as EveryAsked, Share as ShareAsked}
 use Rattle.run_command_line.specs.declared.savings_args.SavingsArgs.{SavingsArgs}
 use Rattle.text_devices.specs.Transfer.{AppendsBeginning}
 use Rattle.text_devices.specs.declared.faults.ReplayError.TheVariants.{Read, Write, Memory, Text}
 use Rattle.run_program.specs.Runs.{HasFailed, HasTold, IsDone, IsSound, IsStoppedFor, error_text}
 use Rattle.run_program.specs.Seen.{Seen}
 use Rattle.run_program.specs.Status.{status_of_error}
+use Rattle.savings_replay.specs.declared.settings.Rounds.{Rounds}
+use Rattle.savings_replay.specs.declared.settings.Rounds.TheVariants.{Every, Share}
 use Rattle.savings_replay.specs.declared.settings.Words.{Words}
 use Rattle.savings_replay.specs.declared.settings.Words.TheVariants.{FirstFit, Seeded}
 use Rattle.savings_report.specs.Inputs.{HasReported, HasShown}
@@ -15,7 +21,7 @@ use Rattle.savings_report.specs.Reports.{Faulty, NotHistory}
 use Rattle.savings_report.specs.declared.errors.SavingsError.{SavingsError}
 use Rattle.savings_report.specs.declared.errors.SavingsError.TheVariants.{NotAHistory, Replay}
 use Rattle.savings_report.specs.declared.options.Form.{Form}
-use Rattle.savings_report.specs.declared.options.Form.TheVariants.{Plot, Table}
+use Rattle.savings_report.specs.declared.options.Form.TheVariants.{Csv, Plot, Table}
 use Rattle.savings_report.specs.declared.options.SavingsOptions.{SavingsOptions}
 
 -- how the words of the objects are made: from the seed, or for first fit if there is no seed
@@ -23,16 +29,23 @@ abbrev pub words_of_seed : Option ℕ → Words
 words_of_seed (Some seed) = Seeded seed
 words_of_seed None = FirstFit
 
--- the form of the figures: a plot or a table
-abbrev pub form_of : Bool → Form
-form_of is_plot = if is_plot then Plot else Table
+-- when rounds are made
+abbrev pub rounds_of : RoundsAsked → Rounds
+rounds_of (EveryAsked frees) = Every frees
+rounds_of (ShareAsked part) = Share part
+
+-- the form of the figures
+abbrev pub form_of : FiguresForm → Form
+form_of TableAsked = Table
+form_of PlotAsked = Plot
+form_of CsvAsked = Csv
 
 -- the options of a report: how the history is followed, which calls the figures are of, and their form
 abbrev pub options_of : SavingsArgs → SavingsOptions
 options_of args = record {
-  settings = record { every = args.every; probe = args.probe; words = words_of_seed args.seed };
+  settings = record { rounds = rounds_of args.rounds; members = args.members; probe = args.probe; words = words_of_seed args.seed };
   window = record { from = args.from; to = args.to };
-  form = form_of args.is_plot;
+  form = form_of args.form;
 }
 
 -- the line that names the call for which a heap had no virtual pages left, without the line's end

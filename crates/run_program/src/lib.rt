@@ -49,9 +49,9 @@ pub use live::live_run;
 pub use pipes::{Hushed, Piped};
 pub use progress::Progress;
 pub use run_command_line::{
-    Args, CheckArgs, Conditions, DrawArgs, ExploreArgs, LiveArgs, MeshPair, Meshes, PacedArgs,
-    Request, SavingsArgs, ShownArgs, Stop, Texts, ThreadsArgs, Told, arguments, request,
-    unread_words,
+    Args, CheckArgs, Conditions, DrawArgs, ExploreArgs, FiguresForm, LiveArgs, MeshPair, Meshes,
+    PacedArgs, Request, RoundsAsked, SavingsArgs, ShownArgs, Stop, Texts, ThreadsArgs, Told,
+    arguments, request, unread_words,
 };
 pub use runs::{replay_echo_run, replay_history_run, replay_run, stop_run, unopened_run};
 pub use savings::savings_run;

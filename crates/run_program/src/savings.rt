@@ -7,17 +7,17 @@ ghost use Rattle.savings_report.specs.declared.errors.SavingsError.{SavingsError
 
 use crate::fault_line::{Line, line_of, number_line};
 use crate::runs::{status_of, tell};
-use crate::{Devices, SavingsArgs};
+use crate::{Devices, FiguresForm, RoundsAsked, SavingsArgs};
 use run_command_line::status::{DONE, FAULTY, UNDECIDED};
-use savings_report::{Form, SavingsError, SavingsOptions, Settings, Window, Words, report};
+use savings_report::{Form, Rounds, SavingsError, SavingsOptions, Settings, Window, Words, report};
 use std::alloc::Global;
 use text_devices::{Sink, Source, write_lines};
 
-/// Follows the recorded history in the input on two heaps, writes what meshing saves to the output, as a table or a
-/// plot, and returns the exit status. Any fault is written to `errors`.
+/// Follows the recorded history in the input on two heaps, writes what meshing saves to the output, as a table, a plot
+/// or comma-separated values, and returns the exit status. Any fault is written to `errors`.
 ///
-/// The status is 0 with the whole table or plot. The status is 4 if a heap has too few virtual pages left for the `new`
-/// of call N. Then the table or plot has the calls before N, and the line is `addresses used up at call N`.
+/// The status is 0 with the whole report. The status is 4 if a heap has too few virtual pages left for the `new` of
+/// call N. Then the report has the calls before N, and the line is `addresses used up at call N`.
 ///
 /// The status is 1 with the line `read fault`, `write fault` or `out of memory`. The status is 2 with the line `line L:
 /// not a history`, or with the line `line L: KIND` if the text has a fault, and the report didn't stop for another
@@ -51,7 +51,11 @@ pub(crate) fn options_of(args: &SavingsArgs) -> SavingsOptions
 {
     SavingsOptions {
         settings: Settings {
-            every: args.every,
+            rounds: match args.rounds {
+                RoundsAsked::Every(frees) => Rounds::Every(frees),
+                RoundsAsked::Share(part) => Rounds::Share(part),
+            },
+            members: args.members,
             probe: args.probe,
             words: match args.seed {
                 Some(seed) => Words::Seeded(seed),
@@ -62,15 +66,15 @@ pub(crate) fn options_of(args: &SavingsArgs) -> SavingsOptions
             from: args.from,
             to: args.to,
         },
-        form: if args.is_plot {
-            Form::Plot
-        } else {
-            Form::Table
+        form: match args.form {
+            FiguresForm::Table => Form::Table,
+            FiguresForm::Plot => Form::Plot,
+            FiguresForm::Csv => Form::Csv,
         },
     }
 }
 
-/// Reports on the history in the input, and writes the table or the plot. Returns the call for which a heap had too few
+/// Reports on the history in the input, and writes the report. Returns the call for which a heap had too few
 /// virtual pages left, if there is such a call.
 fn write_report<I: Source, O: Sink>(
     alloc: Global,

@@ -1,17 +1,18 @@
 -- Both heaps have the same objects, after each call and after all of them.
-use Rattle.std.proofs.Common.{◌≡◌, ◌∙◌, ℕ, ◌+◌, Bool, true, false, cond, nat_eq, is_some, List, [], ◌∷◌, ◌++◌, length, map, filter, Option, Some, None, Result, Ok, Err, ap, refl, subst, sym, arith, inl, inr}
+use Rattle.std.proofs.Common.{◌≡◌, ◌∙◌, ℕ, ◌+◌, Bool, true, false, cond, nat_eq, nat_lt, is_some, List, [], ◌∷◌, ◌++◌, length, map, filter, Option, Some, None, Result, Ok, Err, ap, refl, subst, sym, arith, inl, inr}
 use Rattle.std.specs.Prelude.{count_by, max, sum_by}
 use Rattle.std.proofs.lemmas.Bool.Decides.{eqb_tells}
 use Rattle.std.proofs.lemmas.List.Sums.{sum_by-cons}
 use Rattle.model_words.specs.Classes.{class_for}
 use Rattle.model_words.specs.declared.refusals.Refusal.{Refusal}
+use Rattle.model_words.specs.declared.refusals.Refusal.TheVariants.{Members}
 use Rattle.model_heap.proofs.MayBegin.{meshed}
 use Rattle.model_heap.proofs.NewObjects.{by_place, new_sound}
 use Rattle.model_heap.proofs.TableChanges.{empty_sound, free_sound, sweep_sound, sweep_went, whole_sound}
 use Rattle.model_heap.specs.Mesh.{mesh_of_class, mesh_whole}
 use Rattle.model_heap.specs.Sound.{IsSound}
 use Rattle.model_heap.specs.Table.{Counted, Group, Placed, Slot, Table, empty_table, object_count, place_new, sweep, without_object}
-use Rattle.model_search.specs.Search.{Pairing, View, search, view_of}
+use Rattle.model_search.specs.Search.{Found, Pairing, View, search, view_of}
 use Rattle.savings_replay.specs.ClassCounts.{class_objects}
 use Rattle.savings_replay.specs.Placement.{supply}
 use Rattle.savings_replay.specs.Sweeps.{sweep_each, swept, table_after}
@@ -19,9 +20,8 @@ use Rattle.rand_core.specs.Steps.{first_words}
 use Rattle.rand_xoshiro.specs.Xoshiro256.{plus_plus}
 use Rattle.savings_replay.proofs.ObjectCounts.{but, free_count, mesh_count, new_count, new_one, swept_count}
 use Rattle.savings_replay.specs.Alike.{AreAlike, AreSound, Test, count_in, passes}
-use Rattle.savings_replay.specs.Followed.{Followed, Goes, Large, Live, NoAddresses, NoObject, Outcome, Small, after_free, aliased, freed, is_due, made, object_in, run, run_on, small_placed, start, step, without_serial}
-use Rattle.savings_replay.specs.Meshing.{Heaps, Meshing, after_mesh, after_round, class_meshed, class_sizes, classes_meshed, pair_meshed, pairs_meshed}
-use Rattle.savings_replay.specs.Words.{after_words}
+use Rattle.savings_replay.specs.Followed.{Followed, Goes, Large, Live, NoAddresses, NoObject, Outcome, Small, after_free, aliased, freed, is_due, made, object_in, run, run_on, small_live, small_placed, start, step, without_serial}
+use Rattle.savings_replay.specs.Meshing.{Heaps, Meshing, after_mesh, after_round, class_meshed, class_sizes, classes_meshed, members_at, mesh_within, pair_meshed, pairs_meshed, searched}
 use Rattle.savings_replay.specs.declared.calls.Call.{Call}
 use Rattle.savings_replay.specs.declared.calls.Call.TheVariants.{New, Free, Alias}
 use Rattle.savings_replay.specs.declared.settings.Settings.{Settings}
@@ -70,17 +70,27 @@ pub record IsAs (t u : Table) : Type 0 where
   pub calm : IsCalm u
   pub alike : AreAlike u t
 
-as_mesh : (m : Meshing) (source destination : ℕ) (r : Result Counted Refusal) → IsCalm m.table → mesh_whole mesh_of_class m.table source destination ≡ r
-    → IsAs m.table (after_mesh m source r).table
+as_mesh : (m : Meshing) (source destination : ℕ) (r : Result Counted Refusal) → IsCalm m.table
+    → ((whole : Counted) → r ≡ Ok whole → mesh_whole mesh_of_class m.table source destination ≡ Ok whole) → IsAs m.table (after_mesh m source r).table
 as_mesh m source destination (Err refusal) calm went = record { calm = calm; alike = λ test. refl }
 as_mesh m source destination (Ok whole) calm went = record {
-  calm = calm_mesh m.table source destination whole calm went;
-  alike = λ test. mesh_count test m.table source destination whole calm.sound went;
+  calm = calm_mesh m.table source destination whole calm (went whole refl);
+  alike = λ test. mesh_count test m.table source destination whole calm.sound (went whole refl);
 }
+
+-- a mesh within a number of members is a mesh
+pub within_whole : (most : ℕ) (t : Table) (pair : Pairing) (whole : Counted) → mesh_within most t pair ≡ Ok whole
+    → mesh_whole mesh_of_class t pair.source pair.destination ≡ Ok whole
+within_whole most t pair whole went = go (nat_lt most (members_at t pair.source + members_at t pair.destination)) refl
+  where
+    go : (b : Bool) → nat_lt most (members_at t pair.source + members_at t pair.destination) ≡ b
+        → mesh_whole mesh_of_class t pair.source pair.destination ≡ Ok whole
+    go true is = let clash : Err Members ≡ Ok whole = rw is at went in absurd (cc clash)
+    go false is = rw is at went
 
 as_pair : (m : Meshing) (pair : Pairing) → IsCalm m.table → IsAs m.table (pair_meshed m pair).table
 unfolding pair_meshed
-as_pair m pair calm = as_mesh m pair.source pair.destination (mesh_whole mesh_of_class m.table pair.source pair.destination) calm refl
+as_pair m pair calm = as_mesh m pair.source pair.destination (mesh_within m.members m.table pair) calm (within_whole m.members m.table pair)
 
 as_on : (t u v : Table) → IsAs t u → IsAs u v → IsAs t v
 as_on t u v first second = record { calm = second.calm; alike = λ test. second.alike test ∙ first.alike test }
@@ -96,7 +106,7 @@ unfolding class_meshed
 as_class probe m class calm =
     let view : View = view_of m.table class in
     let count : ℕ = length view.candidates in
-    as_pairs (record m { words = after_words count m.words }) (search view (first_words plus_plus count m.words) probe).pairs calm
+    let found : Found = search view (first_words plus_plus count m.words) probe in as_pairs (searched m count found) found.pairs calm
 
 as_classes : (probe : ℕ) (m : Meshing) (classes : List ℕ) → IsCalm m.table → IsAs m.table (classes_meshed probe m classes).table
 as_classes probe m [] calm = record { calm = calm; alike = λ test. refl }
@@ -123,7 +133,7 @@ same_round probe h same =
     (as_classes probe m class_sizes (calm_swept h.meshing.table same.with)) in
     record { without = a.calm; with = b.calm; alike = λ test. a.alike test ∙ same.alike test ∙ sym (b.alike test) }
 
-same_free : (h : Heaps) (serial : ℕ) → AreSame h → AreSame (without_serial h serial)
+pub same_free : (h : Heaps) (serial : ℕ) → AreSame h → AreSame (without_serial h serial)
 same_free h serial same = record {
   without = calm_free h.without serial same.without;
   with = calm_free h.meshing.table serial same.with;
@@ -147,7 +157,7 @@ same_new h len word serial a b same went other = record {
 -- calls
 
 -- where a call leads to a state, its heaps have the same objects
-abbrev IsSame : Outcome → Type 0
+abbrev pub IsSame : Outcome → Type 0
 IsSame (Goes f) = AreSame f.heaps
 IsSame NoObject = Unit {0}
 IsSame NoAddresses = Unit {0}
@@ -166,14 +176,15 @@ same_made settings f cell len (Some class) same = same_placed settings f cell le
 same_freed : (settings : Settings) (f : Followed) (cell : ℕ) (held : Option (ℕ × Live)) → AreSame f.heaps → IsSame (freed settings f cell held)
 same_freed settings f cell None same = tt
 same_freed settings f cell (Some (number, Small serial len)) same =
-    same_after_free settings.probe (without_serial f.heaps serial) (is_due settings.every (f.counts.freed + 1)) (same_free f.heaps serial same)
+    same_after_free settings.probe (without_serial f.heaps serial) (is_due settings.rounds (f.counts.since + 1) (small_live (without_serial f.heaps serial)))
+    (same_free f.heaps serial same)
 same_freed settings f cell (Some (number, Large len)) same = same
 
 same_aliased : (f : Followed) (to : ℕ) (held : Option (ℕ × Live)) → AreSame f.heaps → IsSame (aliased f to held)
 same_aliased f to None same = tt
 same_aliased f to (Some (number, live)) same = same
 
-same_step : (settings : Settings) (f : Followed) (call : Call) → AreSame f.heaps → IsSame (step settings f call)
+pub same_step : (settings : Settings) (f : Followed) (call : Call) → AreSame f.heaps → IsSame (step settings f call)
 unfolding step
 same_step settings f (New cell len) same = same_made settings f cell (max len 1) (class_for (max len 1)) same
 same_step settings f (Free cell) same = same_freed settings f cell (object_in f cell) same
@@ -194,7 +205,7 @@ run_more settings NoObject (call ∷ calls) (next ∷ more) = refl
 run_more settings NoAddresses (call ∷ calls) [] = refl
 run_more settings NoAddresses (call ∷ calls) (next ∷ more) = refl
 
-same_start : (settings : Settings) → AreSame (start settings).heaps
+pub same_start : (settings : Settings) → AreSame (start settings).heaps
 same_start settings = record { without = calm_empty; with = calm_empty; alike = λ test. refl }
 
 same_heaps : (settings : Settings) (calls : List Call) (f : Followed) → run settings (start settings) calls ≡ Goes f → AreSame f.heaps

@@ -5,16 +5,16 @@ use Rattle.std.specs.List.{All}
 use Rattle.std.proofs.lemmas.Bool.Decides.{eqb_tells}
 use Rattle.std.proofs.lemmas.List.Filters.{sum_by-filter_both}
 use Rattle.std.proofs.lemmas.List.Sums.{sum_by-cons, sum_by-le-sum_by}
-use Rattle.model_heap.specs.PageCounts.{span_pages}
 use Rattle.model_heap.specs.Table.{Group, object_count}
-use Rattle.model_words.specs.Classes.{Row, pages_of, table}
+use Rattle.model_words.specs.Classes.{Row, table}
 use Rattle.mesh_spans.proofs.CountLemmas.{totals_few}
 use Rattle.mesh_spans.specs.Counts.{bytes_in, mapped_in, objects_in}
 use Rattle.mesh_spans.specs.Groups.{groups_from, groups_of, table_group}
 use Rattle.mesh_spans.specs.Index.{GroupEntry, IsIndex, SpanEntry}
 use Rattle.savings_replay.proofs.ClassCounts.{rows_same}
+use Rattle.savings_replay.proofs.HeldPages.{held_within, pages_split}
 use Rattle.savings_replay.proofs.Swept.{spans_within}
-use Rattle.savings_replay.specs.ClassCounts.{class_count, class_objects, class_pages, count_by_class, counted_for, entry_objects, entry_pages}
+use Rattle.savings_replay.specs.ClassCounts.{class_count, class_objects, count_by_class, counted_for, entry_held, entry_objects, held_of, held_pages}
 use Rattle.savings_replay.specs.Placement.{IsPlacement, Placement, table_of}
 
 -- a group of the index counts for a class what the table's group does
@@ -44,17 +44,17 @@ of_table count F class spans b (Some group ∷ groups) same =
           all ∙ ap (λ (gs : List Group). sum_by F gs) (sym left)
     ]
 
-pub pages_of_class : (p : Placement) (class : ℕ) → class_count entry_pages p.index.groups class ≡ class_pages (table_of p) class
+pub held_of_class : (p : Placement) (class : ℕ) → class_count entry_held p.index.groups class ≡ held_pages (table_of p) class
 unfolding groups_of
-pages_of_class p class = of_table entry_pages (λ g. pages_of g.class) class p.index.spans 0 p.index.groups (λ n group. refl)
+held_of_class p class = of_table entry_held held_of class p.index.spans 0 p.index.groups (λ n group. refl)
 
 pub objects_of_class : (p : Placement) (class : ℕ) → class_count entry_objects p.index.groups class ≡ class_objects (table_of p) class
 unfolding groups_of
 objects_of_class p class = of_table entry_objects object_count class p.index.spans 0 p.index.groups (λ n group. refl)
 
-pub pages_by_class : (p : Placement) → count_by_class entry_pages p.index.groups ≡ map (λ row. class_pages (table_of p) row.size) table
+pub held_by_class : (p : Placement) → count_by_class entry_held p.index.groups ≡ map (λ row. held_pages (table_of p) row.size) table
 unfolding count_by_class
-pages_by_class p = rows_same (class_pages (table_of p)) (class_count entry_pages p.index.groups) table (pages_of_class p)
+held_by_class p = rows_same (held_pages (table_of p)) (class_count entry_held p.index.groups) table (held_of_class p)
 
 pub objects_by_class : (p : Placement) → count_by_class entry_objects p.index.groups ≡ map (λ row. class_objects (table_of p) row.size) table
 unfolding count_by_class
@@ -66,13 +66,12 @@ rows_few F most [] few k d below = absurd (omega (arith, below))
 rows_few F most (r ∷ rows) few zero d below = few r.size
 rows_few F most (r ∷ rows) few (suc k) d below = rows_few F most rows few k d (omega (arith, below))
 
--- a class has no more pages than there are
-pub class_pages_few : (p : Placement) (class : ℕ) → IsPlacement p → class_pages (table_of p) class ≤ 65538
-class_pages_few p class kept =
-    let parts = sum_by-filter_both (λ (g : Group). nat_eq g.class class) (λ g. not (nat_eq g.class class)) (λ g. refl) (λ g. pages_of g.class)
-    (table_of p).groups in
-    let all : (table_of p).free_pages + span_pages (table_of p) ≡ 65538 = (let counted = kept.counted in omega (arith, counted)) in
-    omega (arith, parts, all)
+-- a class has no more pages of groups with an object than there are pages
+pub held_pages_few : (p : Placement) (class : ℕ) → IsPlacement p → held_pages (table_of p) class ≤ 65538
+held_pages_few p class kept =
+    let parts = sum_by-filter_both (λ (g : Group). nat_eq g.class class) (λ g. not (nat_eq g.class class)) (λ g. refl) held_of (table_of p).groups in
+    let all = pages_split (table_of p) in
+    let held = held_within p kept in omega (arith, parts, all, held)
 
 -- nor more objects than all slots of as many groups as there can be
 for_class : (class : ℕ) (o : Option GroupEntry) → counted_for entry_objects class o ≤ objects_in o

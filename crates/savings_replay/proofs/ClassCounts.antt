@@ -12,10 +12,10 @@ use Rattle.mesh_class.specs.Class.{class_index, place_in}
 use Rattle.mesh_class.specs.Classes.{IsClass, slots_of}
 use Rattle.mesh_spans.proofs.CountLemmas.{sum_united}
 use Rattle.mesh_spans.specs.Index.{GroupEntry, group_at}
-use Rattle.savings_replay.specs.ClassCounts.{class_count, count_by_class, counted_for}
+use Rattle.savings_replay.specs.ClassCounts.{amount, class_count, count_by_class, counted_for}
 
 -- no two of the rows have one size
-abbrev AreApart : List Row → Type 0
+abbrev pub AreApart : List Row → Type 0
 AreApart [] = Unit {0}
 AreApart (r ∷ rows) = (find (λ s. nat_eq s.size r.size) rows ≡ None) × AreApart rows
 
@@ -49,7 +49,7 @@ rows_at F class (r ∷ rows) some = elim (eqb_tells r.size class) [
   | inr miss ↦ rw miss.0 (rows_at F class rows (rw miss.0 at some))
 ]
 
-table_apart : AreApart table
+pub table_apart : AreApart table
 table_apart = (refl, (refl, (refl, (refl, (refl, (refl, (refl, (refl, (refl, (refl, tt))))))))))
 
 -- a class has a row
@@ -112,11 +112,7 @@ module _ (count : GroupEntry → ℕ) (old new : List (Option GroupEntry)) (clas
   pub count_falls_within : (n : ℕ) → Shifts count old new class 0 n → n ≤ slice_index counts (class_index class)
   count_falls_within n shift = let here = shift.here in let entry = entry_is in omega (arith, here, entry)
 
--- what a group counts, and that it is of a class
-abbrev pub amount : (GroupEntry → ℕ) → Option GroupEntry → ℕ
-amount count None = 0
-amount count (Some group) = count group
-
+-- a group is of a class
 abbrev pub IsOfClass : ℕ → Option GroupEntry → Type 0
 IsOfClass class None = Unit {0}
 IsOfClass class (Some group) = group.class ≡ class

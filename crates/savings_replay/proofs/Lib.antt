@@ -8,11 +8,14 @@ pub mod Pairs
 pub mod TakenCalls
 pub mod AddedSpans
 pub mod ClassBounds
+pub mod ClassBytes
 pub mod ClassChanges
 pub mod ClassCounts
 pub mod ClassLaws
 pub mod FilledGroups
 pub mod Freed
+pub mod HeldGroups
+pub mod HeldPages
 pub mod Kept
 pub mod MergedRecords
 pub mod Placed

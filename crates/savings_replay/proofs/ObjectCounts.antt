@@ -129,7 +129,7 @@ free_total [] k = refl
 free_total (None ∷ slots) k = let rest = free_total slots (k + 1) in omega (arith, rest, sum_by-cons (one (is_some {T = Slot})) None slots)
 free_total (Some slot ∷ slots) k = let rest = free_total slots (k + 1) in omega (arith, rest, sum_by-cons (one (is_some {T = Slot})) (Some slot) slots)
 
-picked_free : (g : Group) (word : ℕ) → object_count g < length g.slots → slice_get g.slots (picked_slot g word) ≡ Some None
+pub picked_free : (g : Group) (word : ℕ) → object_count g < length g.slots → slice_get g.slots (picked_slot g word) ≡ Some None
 picked_free g word some =
     let free : List ℕ = free_from 0 g.slots in
     let total : length free + object_count g ≡ length g.slots = free_total g.slots 0 in
@@ -142,7 +142,7 @@ none_in : (test : Test) (class n : ℕ) → count_by (passes test class) (replic
 none_in test class zero = refl
 none_in test class (suc n) = let rest = none_in test class n in omega (arith, rest, sum_by-cons (one (passes test class)) None (replicate n None))
 
-none_filled : (n : ℕ) → count_by (is_some {T = Slot}) (replicate n None) ≡ 0
+pub none_filled : (n : ℕ) → count_by (is_some {T = Slot}) (replicate n None) ≡ 0
 none_filled zero = refl
 none_filled (suc n) = let rest = none_filled n in omega (arith, rest, sum_by-cons (one (is_some {T = Slot})) None (replicate n None))
 
@@ -176,7 +176,7 @@ rows_have_slots size (row ∷ rows) have some = elim (eqb_tells row.size size) [
   | inr other ↦ rw other.0 (rows_have_slots size rows have.1 (rw other.0 at some))
 ]
 
-class_has_slots : (class : ℕ) → IsSome (row_of class) → 1 ≤ slots_of class
+pub class_has_slots : (class : ℕ) → IsSome (row_of class) → 1 ≤ slots_of class
 unfolding slots_of
 class_has_slots class some = rows_have_slots class table
     (omega arith, (omega arith, (omega arith, (omega arith, (omega arith, (omega arith, (omega arith, (omega arith, (omega arith, (omega arith, tt)))))))))) some

@@ -1,5 +1,6 @@
 -- A search finds at most as many pairs as its first half has candidates.
-use Rattle.std.proofs.Common.{◌≡◌, ℕ, suc, zero, ◌+◌, ◌*◌, ◌/◌, ◌%◌, ◌≤◌, Bool, true, false, cond, not, ◌||◌, List, [], ◌∷◌, ◌++◌, arith, refl, ap, ◌∙◌, length, map, take, drop, filter, nat_eq, nat_lt, length-append, eq-eqb}
+use Rattle.std.proofs.Common.{◌≡◌, ℕ, suc, zero, ◌+◌, ◌*◌, ◌/◌, ◌%◌, ◌<◌, ◌≤◌, Bool, true, false, cond, not, ◌||◌, List, [], ◌∷◌, ◌++◌, arith, refl, ap, ◌∙◌, length, map, take, drop, filter, nat_eq, nat_lt, length-append, eq-eqb}
+use Rattle.std.proofs.Math.Nat.{mul-le-mul}
 use Rattle.std.specs.List.{list_any, zip}
 use Rattle.std.specs.Prelude.{if◌then◌else◌}
 use Rattle.std.proofs.lemmas.List.{length-take}
@@ -97,3 +98,12 @@ search_few view words t few =
     let total : length order ≡ length view.candidates = shuffle_length view.candidates words in
     let parts : half * 2 + length order % 2 ≡ length order = div-add-mod' (length order) 2 in
     omega (arith, all, cut, total, parts, few)
+
+-- a search of at most 65,536 candidates in fewer than 2^32 rounds makes at most 2^47 tries
+pub tries_within : (rounds candidates tries : ℕ) → rounds < 4294967296 → candidates ≤ 65536 → tries ≤ rounds * (candidates / 2)
+    → tries ≤ 140737488355328
+tries_within rounds candidates tries few small most =
+    let half : candidates / 2 ≤ 32768 = omega (arith, small) in
+    let below : rounds ≤ 4294967296 = omega (arith, few) in
+    let product : rounds * (candidates / 2) ≤ 4294967296 * 32768 = mul-le-mul {n₁ = rounds} {m₁ = candidates / 2} {n₂ = 4294967296} {m₂ = 32768} below half in
+    omega (arith, most, product)

@@ -1,5 +1,5 @@
 -- What each call leaves stands for the state after it.
-use Rattle.std.proofs.Common.{◌≡◌, ◌∙◌, ℕ, ◌+◌, Bool, true, false, ◌&&◌, is_ok, nat_eq, is_some, List, Option, Some, None, Result, Ok, Err, ap, refl, subst, sym}
+use Rattle.std.proofs.Common.{◌≡◌, ◌∙◌, ℕ, ◌+◌, true, false, ◌&&◌, is_ok, nat_eq, is_some, List, Option, Some, None, Result, Ok, Err, ap, refl, subst, sym}
 use Rattle.std.specs.Prelude.{sum_by}
 use Rattle.std.specs.Map.{lookup}
 use Rattle.model_heap.specs.Table.{Placed, Table, object_count, place_new}
@@ -7,9 +7,9 @@ use Rattle.model_words.specs.declared.refusals.Refusal.{Refusal}
 use Rattle.savings_replay.specs.Placement.{table_of}
 use Rattle.savings_replay.proofs.FollowsLemmas.{Agree, IsHeld, apart_large, apart_small, apart_without, at_other, at_same, below_large, below_small, held_at, held_none, held_some, kept_at, kept_on}
 use Rattle.savings_replay.specs.Counts.{alias_counted, large_free_counted, large_new_counted, small_free_counted, small_new_counted}
-use Rattle.savings_replay.specs.Followed.{Followed, Large as LiveLarge, Live, NoAddresses as HasNoAddresses, Small as LiveSmall, after_free, aliased, freed, is_due, large_freed, made, object_in, small_freed, small_made, small_placed, with_at, without_serial}
+use Rattle.savings_replay.specs.Followed.{Followed, Large as LiveLarge, Live, NoAddresses as HasNoAddresses, Small as LiveSmall, after_free, aliased, freed, is_due, large_freed, made, object_in, small_freed, small_live, small_made, small_placed, with_at, without_serial}
 use Rattle.savings_replay.specs.Follows.{Follows, IsKept, IsTaken, kept_of}
-use Rattle.savings_replay.specs.HeapChanges.{AreKeptBut, IsAt, IsMadeIn, has_room, heaps_of}
+use Rattle.savings_replay.specs.HeapChanges.{AreKept, AreKeptBut, IsAt, IsFreedFrom, IsMadeIn, has_room, heaps_of}
 use Rattle.savings_replay.specs.Meshing.{Heaps, Meshing}
 use Rattle.savings_replay.specs.Objects.{IsAliased, IsTakenOut, cell_of, entry_of, number_in}
 use Rattle.savings_replay.specs.Words.{after_new_word, new_word}
@@ -101,48 +101,57 @@ large_free s o n c w h f cell number len fol out =
     let found : (live : Live) × (IsHeld f cell number live × IsKept h (Some (Large len)) (Some live)) = out_held o n h f cell number (Large len) (agree s o c w h f fol) out in
     large_by s o n c w h f cell number len found.0 fol out found.1.0 found.1.1
 
--- the heaps after a free, of the state
-freed_heaps : (h n : TwoHeaps) (f : Followed) (probe serial : ℕ) (due : Bool) → heaps_of h ≡ f.heaps
-    → heaps_of n ≡ after_free probe (without_serial (heaps_of h) serial) due → heaps_of n ≡ after_free probe (without_serial f.heaps serial) due
-freed_heaps h n f probe serial due same is = is ∙ ap (λ x. after_free probe (without_serial x serial) due) same
+-- a round that may follow a free
+abbrev after_round_of : Settings → Counts → Heaps → Heaps
+after_round_of s c left = after_free s.probe left (is_due s.rounds (c.since + 1) (small_live left))
 
-small_by : (s : Settings) (o n : Objects) (c : Counts) (w : List ℕ) (h after : TwoHeaps) (f : Followed) (cell number : ℕ) (places : Places) (live : Live)
+abbrev counted_free : Settings → Counts → Heaps → Counts
+counted_free s c left = small_free_counted c (is_due s.rounds (c.since + 1) (small_live left))
+
+small_by : (s : Settings) (o n : Objects) (c : Counts) (w : List ℕ) (h mid after : TwoHeaps) (f : Followed) (cell number : ℕ) (places : Places) (live : Live)
     → Follows (kept_of s o c w h) f → IsTakenOut o n cell number (Small places) → IsHeld f cell number live → IsKept h (Some (Small places)) (Some live)
-    → ((serial len : ℕ) → IsAt h places serial len
-    → heaps_of after ≡ after_free s.probe (without_serial (heaps_of h) serial) (is_due s.every (c.freed + 1)))
-    → ((serial len : ℕ) → IsAt h places serial len → AreKeptBut h after serial)
-    → IsTaken (kept_of s n (small_free_counted c (is_due s.every (c.freed + 1))) w after) f (freed s f cell (object_in f cell)) Made
-small_by s o n c w h after f cell number places (LiveLarge size) fol out held kept value stay = absurd kept
-small_by s o n c w h after f cell number places (LiveSmall serial len) fol out held kept value stay =
-    let but : AreKeptBut h after serial = stay serial len kept in
-    let due : Counts → Bool = λ x. is_due s.every (x.freed + 1) in
-    let follows : Follows (kept_of s n (small_free_counted c (is_due s.every (c.freed + 1))) w after) (small_freed s f cell number serial) = record {
+    → ((serial len : ℕ) → IsAt h places serial len → IsFreedFrom h mid serial)
+    → heaps_of after ≡ after_round_of s c (heaps_of mid) → AreKept mid after
+    → IsTaken (kept_of s n (counted_free s c (heaps_of mid)) w after) f (freed s f cell (object_in f cell)) Made
+small_by s o n c w h mid after f cell number places (LiveLarge size) fol out held kept left value stay = absurd kept
+small_by s o n c w h mid after f cell number places (LiveSmall serial len) fol out held kept left value stay =
+    let gone : IsFreedFrom h mid serial = left serial len kept in
+    let but : AreKeptBut h after serial = kept_after h mid after serial gone.kept stay in
+    let mid_is : heaps_of mid ≡ without_serial f.heaps serial = gone.heaps ∙ ap (λ (x : Heaps). without_serial x serial) fol.heaps in
+    let follows : Follows (kept_of s n (counted_free s c (heaps_of mid)) w after) (small_freed s f cell number serial) = record {
       cells = λ k. out.cells k ∙ at_same cell k None (cell_of o) f.cells (fol.cells k);
       objects = λ k. subst (λ e. IsKept after e (with_at number None f.live k)) (sym (out.live k))
           (kept_at after number None None (entry_of o) f.live k tt
           (λ other. kept_on h after (entry_of o k) (f.live k)
           (λ at_places at_serial at_len is at. but.objects at_places at_serial at_len
           (λ same. other (fol.apart number k serial len at_len held.live_is (is ∙ ap (λ x. Some (LiveSmall x at_len)) same))) at) (fol.objects k)));
-      counts = ap (λ (x : Counts). small_free_counted x (due x)) fol.counts;
+      counts = ap (λ (x : Counts). counted_free s x (heaps_of mid)) fol.counts ∙ ap (λ (x : Heaps). counted_free s f.counts x) mid_is;
       new_words = fol.new_words;
-      heaps = freed_heaps h after f s.probe serial (due c) fol.heaps (value serial len kept) ∙ ap (λ (x : Counts). after_free s.probe (without_serial f.heaps serial) (due x)) fol.counts;
+      heaps = value ∙ ap (λ (x : Counts). after_round_of s x (heaps_of mid)) fol.counts ∙ ap (λ (x : Heaps). after_round_of s f.counts x) mid_is;
       without_serial = but.without_serial ∙ fol.without_serial;
       with_serial = but.with_serial ∙ fol.with_serial;
       apart = apart_without number f.live fol.apart;
       below = λ m other size at. fol.below m other size (at_other number m f.live (LiveSmall other size) at).1;
     } in
-    subst (λ found. IsTaken (kept_of s n (small_free_counted c (is_due s.every (c.freed + 1))) w after) f (freed s f cell found) Made) (sym held.held) follows
+    subst (λ found. IsTaken (kept_of s n (counted_free s c (heaps_of mid)) w after) f (freed s f cell found) Made) (sym held.held) follows
+  where
+    -- what a free keeps, a round after it keeps
+    kept_after : (old left new : TwoHeaps) (gone : ℕ) → AreKeptBut old left gone → AreKept left new → AreKeptBut old new gone
+    kept_after old left new gone free round = record {
+      without_serial = round.without_serial ∙ free.without_serial;
+      with_serial = round.with_serial ∙ free.with_serial;
+      objects = λ at_places at_serial at_len apart at. round.objects at_places at_serial at_len (free.objects at_places at_serial at_len apart at);
+    }
 
-pub small_free : (s : Settings) (o n : Objects) (c : Counts) (w : List ℕ) (h after : TwoHeaps) (f : Followed) (cell number : ℕ) (places : Places)
+pub small_free : (s : Settings) (o n : Objects) (c : Counts) (w : List ℕ) (h mid after : TwoHeaps) (f : Followed) (cell number : ℕ) (places : Places)
     → Follows (kept_of s o c w h) f → IsTakenOut o n cell number (Small places)
-    → ((serial len : ℕ) → IsAt h places serial len
-    → heaps_of after ≡ after_free s.probe (without_serial (heaps_of h) serial) (is_due s.every (c.freed + 1)))
-    → ((serial len : ℕ) → IsAt h places serial len → AreKeptBut h after serial)
-    → IsTaken (kept_of s n (small_free_counted c (is_due s.every (c.freed + 1))) w after) f (freed s f cell (object_in f cell)) Made
-small_free s o n c w h after f cell number places fol out value stay =
+    → ((serial len : ℕ) → IsAt h places serial len → IsFreedFrom h mid serial)
+    → heaps_of after ≡ after_round_of s c (heaps_of mid) → AreKept mid after
+    → IsTaken (kept_of s n (counted_free s c (heaps_of mid)) w after) f (freed s f cell (object_in f cell)) Made
+small_free s o n c w h mid after f cell number places fol out left value stay =
     let found : (live : Live) × (IsHeld f cell number live × IsKept h (Some (Small places)) (Some live)) =
     out_held o n h f cell number (Small places) (agree s o c w h f fol) out in
-    small_by s o n c w h after f cell number places found.0 fol out found.1.0 found.1.1 value stay
+    small_by s o n c w h mid after f cell number places found.0 fol out found.1.0 found.1.1 left value stay
 
 -- an object is made
 
@@ -200,10 +209,10 @@ placed_same t u len word other serial next address after tables words serials pl
     (subst (λ x. place_new t len x next ≡ Ok (record { address = address; table = after })) words
     (subst (λ x. place_new t len word x ≡ Ok (record { address = address; table = after })) serials placed))
 
-heaps_same : (m : TwoHeaps) (without table : Table) (x : Meshing) → m.mesher.counts ≡ x.counts → m.mesher.words ≡ x.words
-    → record { without = without; meshing = record { table = table; counts = m.mesher.counts; words = m.mesher.words } }
+heaps_same : (m : TwoHeaps) (without table : Table) (x : Meshing) → m.mesher.counts ≡ x.counts → m.mesher.words ≡ x.words → m.mesher.members ≡ x.members
+    → record { without = without; meshing = record { table = table; counts = m.mesher.counts; words = m.mesher.words; members = m.mesher.members } }
     ≡ (let after : Heaps = record { without = without; meshing = record x { table = table } } in after)
-heaps_same m without table x counts words = rw (counts, words) refl
+heaps_same m without table x counts words members = rw (counts, words, members) refl
 
 pub small_new : (s : Settings) (o n : Objects) (c : Counts) (w v : List ℕ) (h m : TwoHeaps) (f : Followed) (cell len class word live : ℕ) (places : Places)
     → Follows (kept_of s o c w h) f → IsMadeIn h m len word places → word ≡ new_word s.words w → v ≡ after_new_word s.words w
@@ -232,7 +241,8 @@ small_new s o n c w v h m f cell len class word live places fol new word_is word
       counts = ap (λ x. small_new_counted x class live) fol.counts ∙ ap (small_new_counted f.counts class) live_is;
       new_words = words ∙ ap (after_new_word s.words) fol.new_words;
       heaps = heaps_same m (table_of m.without) (table_of m.mesher.placement) f.heaps.meshing
-          (new.counts ∙ ap (λ (x : Heaps). x.meshing.counts) fol.heaps) (new.words ∙ ap (λ (x : Heaps). x.meshing.words) fol.heaps);
+          (new.counts ∙ ap (λ (x : Heaps). x.meshing.counts) fol.heaps) (new.words ∙ ap (λ (x : Heaps). x.meshing.words) fol.heaps)
+          (new.members ∙ ap (λ (x : Heaps). x.meshing.members) fol.heaps);
       without_serial = new.without_serial ∙ ap (λ x. x + 1) fol.without_serial;
       with_serial = new.with_serial ∙ ap (λ x. x + 1) fol.with_serial;
       apart = apart_small f.counts.made f.counts.small len f.live fol.below fol.apart;

@@ -28,8 +28,8 @@ pub record IsMerged (old new : Index) (s d : ℕ) (a b : GroupEntry) : Type 0 wh
   pub table : groups_of new ≡ merged (groups_of old) (table_group old.spans s a) d
   pub closed : (m : ℕ) → is_closed new m ≡ (not (nat_eq m s) && is_closed old m)
 
-module _ (old : Placement) (new : Index) (s d class pages bytes : ℕ) (kept : IsPlacement old) (sound : IsIndex old.index.spans old.index.groups)
-    (may : MayMesh old.index s d class pages bytes) (is : IsMerged old.index new s d may.merge.pair.a may.merge.pair.b) where
+module _ (old : Placement) (new : Index) (s d class pages held bytes : ℕ) (kept : IsPlacement old) (sound : IsIndex old.index.spans old.index.groups)
+    (may : MayMesh old.index s d class pages held bytes) (is : IsMerged old.index new s d may.merge.pair.a may.merge.pair.b) where
   abbrev after : Placement
   after = record old { index = new; taken_pages = old.taken_pages - pages }
 

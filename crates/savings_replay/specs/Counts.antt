@@ -14,14 +14,14 @@ no_count = record {
   large = 0;
   large_pages = 0;
   most_large_pages = 0;
-  freed = 0;
+  since = 0;
   rounds = 0;
   used = replicate 10 false;
 }
 
 -- the counts of meshes before the first mesh
 abbrev pub no_mesh : MeshCounts
-no_mesh = record { meshes = 0; refused = 0; moved = 0 }
+no_mesh = record { meshes = 0; refused = 0; moved = 0; tries = 0 }
 
 -- the number of pages for `len` bytes, rounded up
 abbrev pub whole_pages : ℕ → ℕ
@@ -49,7 +49,12 @@ large_new_counted c len = record c {
 
 -- the counts after a small object was freed, and after the round that follows if one is due
 abbrev pub small_free_counted : Counts → Bool → Counts
-small_free_counted c is_due = record c { calls = c.calls + 1; freed = c.freed + 1; rounds = c.rounds + (if is_due then 1 else 0) }
+small_free_counted c is_due =
+    record c {
+      calls = c.calls + 1;
+      since = if is_due then 0 else c.since + 1;
+      rounds = c.rounds + (if is_due then 1 else 0);
+    }
 
 -- the counts after a large object was freed
 abbrev pub large_free_counted : Counts → ℕ → Counts
@@ -59,11 +64,12 @@ large_free_counted c len = record c { calls = c.calls + 1; large_pages = c.large
 abbrev pub alias_counted : Counts → Counts
 alias_counted c = record c { calls = c.calls + 1 }
 
--- the numbers of objects and of rounds are at most the number of calls; a large object has at most 2^52 pages
+-- the numbers of objects, of rounds and of frees since a round are at most the number of calls; a large object has at
+-- most 2^52 pages
 pub record IsFew (c : Counts) : Type 0 where
   pub made : c.made ≤ c.calls
   pub small : c.small ≤ c.made
   pub large : c.large ≤ c.made
-  pub freed : c.freed ≤ c.calls
-  pub rounds : c.rounds ≤ c.freed
+  pub since : c.since ≤ c.calls
+  pub rounds : c.rounds ≤ c.calls
   pub pages : c.large_pages ≤ 4503599627370496 * c.large

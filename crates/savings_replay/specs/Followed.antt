@@ -1,5 +1,5 @@
 -- The state to which a program's calls lead: the objects and the cells, both heaps, and the counts.
-use Rattle.std.specs.Prelude.{ℕ, ◌+◌, ◌%◌, Bool, ◌&&◌, if◌then◌else◌, nat_eq, nat_lt, max, List, [], ◌∷◌, Option, Some, None, Result, Ok, option_map, sum_by}
+use Rattle.std.specs.Prelude.{ℕ, ◌+◌, ◌*◌, Bool, ◌&&◌, if◌then◌else◌, nat_eq, nat_le, max, List, [], ◌∷◌, Option, Some, None, Result, Ok, option_map, sum_by}
 use Rattle.model_heap.specs.Table.{Placed, Table, empty_table, object_count, place_new, without_object}
 use Rattle.model_words.specs.Classes.{class_for}
 use Rattle.model_words.specs.declared.refusals.Refusal.{Refusal}
@@ -10,6 +10,8 @@ use Rattle.savings_replay.specs.Words.{after_new_word, new_seed, new_word, shuff
 use Rattle.savings_replay.specs.declared.calls.Call.{Call}
 use Rattle.savings_replay.specs.declared.calls.Call.TheVariants.{New, Free, Alias}
 use Rattle.savings_replay.specs.declared.counts.Counts.{Counts}
+use Rattle.savings_replay.specs.declared.settings.Rounds.{Rounds}
+use Rattle.savings_replay.specs.declared.settings.Rounds.TheVariants.{Every, Share}
 use Rattle.savings_replay.specs.declared.settings.Settings.{Settings}
 
 -- a live object: small, of up to 2,048 bytes, with its serial in both heaps; or large, and in neither heap
@@ -34,11 +36,11 @@ pub data Outcome : Type 0 where
   -- a heap has too few virtual pages left
   NoAddresses : Outcome
 
--- both heaps without an object, and the generator of the shuffles' words, with this seed
-abbrev pub empty_heaps : ℕ → Heaps
-empty_heaps seed = record {
+-- both heaps without an object, the generator of the shuffles' words, with this seed, and the most members of a group
+abbrev pub empty_heaps : ℕ → ℕ → Heaps
+empty_heaps seed members = record {
   without = empty_table supply;
-  meshing = record { table = empty_table supply; counts = no_mesh; words = state_of seed };
+  meshing = record { table = empty_table supply; counts = no_mesh; words = state_of seed; members = members };
 }
 
 -- the state before the first call
@@ -48,7 +50,7 @@ start settings = record {
   live = λ number. None;
   counts = no_count;
   new_words = state_of (new_seed settings.words);
-  heaps = empty_heaps (shuffle_seed settings.words);
+  heaps = empty_heaps (shuffle_seed settings.words) settings.members;
 }
 
 -- the function with another value at `n`
@@ -97,9 +99,11 @@ made settings f cell len (Some class) =
     let word = new_word settings.words f.new_words in
     small_placed settings f cell len class (place_new f.heaps.without len word f.counts.small) (place_new f.heaps.meshing.table len word f.counts.small)
 
--- whether a round is due after the free with this number, counted from 1; if `every` is 0, none is
-abbrev pub is_due : ℕ → ℕ → Bool
-is_due every free = nat_lt 0 every && nat_eq (free % every) 0
+-- whether a round is due after this many frees of small objects since the last round, the last free included, if `live`
+-- small objects are left
+abbrev pub is_due : Rounds → ℕ → ℕ → Bool
+is_due (Every frees) since live = nat_eq since frees
+is_due (Share part) since live = nat_le 64 since && nat_le live (since * part)
 
 -- both heaps without the object of this serial
 abbrev pub without_serial : Heaps → ℕ → Heaps
@@ -112,13 +116,18 @@ without_serial heaps serial = record {
 abbrev pub after_free : ℕ → Heaps → Bool → Heaps
 after_free probe heaps due = if due then after_round probe heaps else heaps
 
+-- the number of small objects in the heaps
+abbrev pub small_live : Heaps → ℕ
+small_live heaps = sum_by object_count heaps.without.groups
+
 -- the state after a small object was freed in both heaps
 abbrev pub small_freed : Settings → Followed → ℕ → ℕ → ℕ → Followed
 small_freed settings f cell number serial =
-    let due = is_due settings.every (f.counts.freed + 1) in
+    let left = without_serial f.heaps serial in
+    let due = is_due settings.rounds (f.counts.since + 1) (small_live left) in
     record (forgotten f cell number) {
       counts = small_free_counted f.counts due;
-      heaps = after_free settings.probe (without_serial f.heaps serial) due;
+      heaps = after_free settings.probe left due;
     }
 
 -- the state after a large object was freed

@@ -4,6 +4,7 @@ use Rattle.std.specs.Map.{lookup}
 use Rattle.savings_replay.specs.Counts.{IsFew}
 use Rattle.savings_replay.specs.Followed.{Followed, Goes, Large as LiveLarge, Live, NoAddresses as HasNoAddresses, NoObject as HasNoObject, Outcome, Small as LiveSmall}
 use Rattle.savings_replay.specs.HeapChanges.{HaveSerial, IsAt, heaps_of}
+use Rattle.savings_replay.specs.Mesher.{round_tries}
 use Rattle.savings_replay.specs.declared.counts.Counts.{Counts}
 use Rattle.savings_replay.specs.declared.counts.MeshCounts.{MeshCounts}
 use Rattle.savings_replay.specs.declared.heaps.TwoHeaps.{TwoHeaps}
@@ -62,6 +63,7 @@ pub record Follows (code : Kept) (f : Followed) : Type 0 where
 pub record AreOfRounds (counts : MeshCounts) (rounds : ℕ) : Type 0 where
   pub counted : counts.meshes + counts.refused ≤ 327680 * rounds
   pub moved : counts.moved ≤ 4026531840 * rounds
+  pub tried : counts.tries ≤ round_tries * rounds
 
 -- what always holds of the counts
 pub record IsCounted (code : Kept) : Type 0 where

@@ -12,7 +12,7 @@ use Rattle.savings_replay.specs.declared.objects.Places.{Places}
 abbrev pub heaps_of : TwoHeaps → Heaps
 heaps_of h = record {
   without = table_of h.without;
-  meshing = record { table = table_of h.mesher.placement; counts = h.mesher.counts; words = h.mesher.words };
+  meshing = record { table = table_of h.mesher.placement; counts = h.mesher.counts; words = h.mesher.words; members = h.mesher.members };
 }
 
 -- the object with this serial and this length is at its places in both heaps
@@ -56,6 +56,7 @@ pub record IsMadeIn (old new : TwoHeaps) (len word : ℕ) (places : Places) : Ty
       ≡ Ok (record { address = with_address; table = table_of new.mesher.placement })
   pub counts : new.mesher.counts ≡ old.mesher.counts
   pub words : new.mesher.words ≡ old.mesher.words
+  pub members : new.mesher.members ≡ old.mesher.members
   pub without_serial : new.without.next_serial ≡ old.without.next_serial + 1
   pub with_serial : new.mesher.placement.next_serial ≡ old.mesher.placement.next_serial + 1
   pub without_recorded : record_at new.without.index places.without.0 places.without.1 ≡ Some (old.without.next_serial, len)

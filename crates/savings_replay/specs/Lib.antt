@@ -9,6 +9,7 @@ pub mod Sweeps
 pub mod Alike
 pub mod Calls
 pub mod Counts
+pub mod EmptyPages
 pub mod Followed
 pub mod Follows
 pub mod HeapChanges

@@ -1,5 +1,5 @@
 //! A count for each class.
-ghost use Rattle.std.specs.Prelude.{◌≡◌, ◌+◌, ◌-◌, ◌^◌, ◌<◌, ◌≤◌, replicate, slice_index, slice_set};
+ghost use Rattle.std.specs.Prelude.{◌≡◌, ◌+◌, ◌-◌, ◌^◌, ◌<◌, ◌≤◌, replicate, slice_index, slice_set, sum};
 ghost use Rattle.mesh_class.specs.Class.{class_index};
 
 use mesh_class::Class;
@@ -23,6 +23,14 @@ impl ClassCounts {
         ensures { result.now ≡ self.now.counts }
     {
         &self.counts
+    }
+
+    /// The sum of all counts.
+    pub(crate) fn total(&self) -> u32
+        requires { sum self.now.counts < 2 ^ 32 }
+        ensures { result ≡ sum self.now.counts }
+    {
+        self.counts.iter().sum()
     }
 
     /// Adds `by` to the count of a class.

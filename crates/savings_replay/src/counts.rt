@@ -25,8 +25,8 @@ pub struct Counts {
     pub large_pages: u128,
     /// The maximum of `large_pages` so far.
     pub most_large_pages: u128,
-    /// The number of small objects freed.
-    pub freed: u32,
+    /// The number of small objects freed since the last round.
+    pub since: u32,
     /// The number of rounds made.
     pub rounds: u32,
     /// Whether each class has ever had an object, from the smallest class to the largest.
@@ -42,6 +42,8 @@ pub struct MeshCounts {
     pub refused: u64,
     /// The number of bytes of the objects that meshes moved.
     pub moved: u64,
+    /// How often two groups were compared in searches. The number can need more than 64 bits.
+    pub tries: u128,
 }
 
 impl MeshCounts {
@@ -53,6 +55,7 @@ impl MeshCounts {
             meshes: 0,
             refused: 0,
             moved: 0,
+            tries: 0,
         }
     }
 }
@@ -78,7 +81,7 @@ impl Counts {
             large: 0,
             large_pages: 0,
             most_large_pages: 0,
-            freed: 0,
+            since: 0,
             rounds: 0,
             used: [false; 10],
         }
@@ -131,7 +134,7 @@ impl Counts {
     {
         Counts {
             calls: self.calls + 1,
-            freed: self.freed + 1,
+            since: if is_due { 0 } else { self.since + 1 },
             rounds: self.rounds + u32::from(is_due),
             ..*self
         }

@@ -4,10 +4,10 @@ ghost use Rattle.model_heap.specs.Table.{object_count, place_new};
 ghost use Rattle.savings_replay.specs.Placement.{IsFreed, IsMade, table_of};
 ghost use Rattle.savings_replay.specs.Records.{KeepsRecords};
 ghost use Rattle.mesh_spans.specs.Index.{record_at};
-ghost use Rattle.savings_replay.specs.Followed.{after_free, empty_heaps, without_serial};
-ghost use Rattle.savings_replay.specs.HeapChanges.{AreKept, AreKeptBut, has_room, HaveNoSerial, HaveSerial, IsAt, IsFreedFrom, IsMadeIn, heaps_of};
+ghost use Rattle.savings_replay.specs.Followed.{after_free, empty_heaps, small_live};
+ghost use Rattle.savings_replay.specs.HeapChanges.{AreKept, has_room, HaveNoSerial, HaveSerial, IsAt, IsFreedFrom, IsMadeIn, heaps_of};
 ghost use Rattle.savings_replay.specs.Meshing.{IsAfterPairs, after_round};
-ghost use Rattle.savings_replay.specs.Mesher.{Fits};
+ghost use Rattle.savings_replay.specs.Mesher.{Fits, round_tries};
 
 use crate::counts::MeshCounts;
 use crate::meshing::Mesher;
@@ -50,9 +50,13 @@ fn place(placement: &mut Placement, len: u32, word: u64) -> Result<(Span, Slot),
 }
 
 impl TwoHeaps {
-    /// Returns both heaps without objects.
-    pub(crate) fn open(alloc: Global, shuffle_seed: u64) -> Result<TwoHeaps, AllocError>
-        ensures heaps { IfOk result (λ heaps. heaps_of heaps ≡ empty_heaps shuffle_seed) }
+    /// Returns both heaps without objects. A mesh gives a group at most `members` members.
+    pub(crate) fn open(
+        alloc: Global,
+        shuffle_seed: u64,
+        members: u32,
+    ) -> Result<TwoHeaps, AllocError>
+        ensures heaps { IfOk result (λ heaps. heaps_of heaps ≡ empty_heaps shuffle_seed members) }
         ensures without_serial { IfOk result (λ heaps. heaps.without.next_serial ≡ 0) }
         ensures with_serial { IfOk result (λ heaps. heaps.mesher.placement.next_serial ≡ 0) }
     {
@@ -62,6 +66,7 @@ impl TwoHeaps {
                 placement: Placement::open(alloc)?,
                 counts: MeshCounts::none(),
                 words: seeded(shuffle_seed),
+                members,
             },
         })
     }
@@ -97,21 +102,23 @@ impl TwoHeaps {
         Ok(Places { without, with })
     }
 
-    /// Frees an object in both heaps.
-    fn free(&mut self, places: Places)
+    /// Frees an object in both heaps, and returns the number of objects that are left in each.
+    pub(crate) fn free(&mut self, places: Places) -> u32
         ensures freed { (serial len : ℕ) → IsAt self.old places serial len → IsFreedFrom self.old self.new serial }
         ensures counts { self.new.mesher.counts ≡ self.old.mesher.counts }
+        ensures left { result ≡ small_live (heaps_of self.new) }
     {
         free_at(&mut self.without, places.without);
         free_at(&mut self.mesher.placement, places.with);
+        self.without.totals().objects
     }
 
     /// Makes a round. It removes the empty groups of both heaps, and then searches and meshes each class of the heap
     /// that meshes.
     fn round(&mut self, alloc: Global, probe: u32) -> Result<(), AllocError>
-        requires { Fits self.old.mesher.counts 327680 }
+        requires { Fits self.old.mesher.counts 327680 round_tries }
         ensures value { OnOk result (heaps_of self.new ≡ after_round probe (heaps_of self.old)) }
-        ensures counts { IsAfterPairs self.old.mesher.counts self.new.mesher.counts 327680 }
+        ensures counts { IsAfterPairs self.old.mesher.counts self.new.mesher.counts 327680 round_tries }
         ensures kept { AreKept self.old self.new }
     {
         self.without.sweep_empty();
@@ -119,21 +126,19 @@ impl TwoHeaps {
         self.mesher.mesh_classes(alloc, probe)
     }
 
-    /// Frees an object in both heaps, and makes a round if `is_due`.
-    pub(crate) fn free_and_round(
+    /// Makes a round if `is_due`.
+    pub(crate) fn round_if_due(
         &mut self,
         alloc: Global,
-        places: Places,
         is_due: bool,
         probe: u32,
     ) -> Result<(), AllocError>
-        requires { IsTrue is_due → Fits self.old.mesher.counts 327680 }
-        ensures value { (serial len : ℕ) → IsAt self.old places serial len
-            → OnOk result (heaps_of self.new ≡ after_free probe (without_serial (heaps_of self.old) serial) is_due) }
-        ensures kept { (serial len : ℕ) → IsAt self.old places serial len → AreKeptBut self.old self.new serial }
-        ensures counts { IsAfterPairs self.old.mesher.counts self.new.mesher.counts (if is_due then 327680 else 0) }
+        requires { IsTrue is_due → Fits self.old.mesher.counts 327680 round_tries }
+        ensures value { OnOk result (heaps_of self.new ≡ after_free probe (heaps_of self.old) is_due) }
+        ensures kept { AreKept self.old self.new }
+        ensures counts { IsAfterPairs self.old.mesher.counts self.new.mesher.counts (if is_due then 327680 else 0)
+            (if is_due then round_tries else 0) }
     {
-        self.free(places);
         if is_due {
             self.round(alloc, probe)?;
         }

@@ -1,5 +1,6 @@
 //! Lemmas about both heaps after any calls. Each lemma is the contract of a function that does nothing.
 ghost use Rattle.savings_replay.specs.Alike.{ClassesAreAlike, HeapsAreAlike, HeapsAreSound, RunsGoOn};
+ghost use Rattle.savings_replay.specs.EmptyPages.{RoundsLeaveNoneEmpty};
 
 /// After any calls, both heaps have the same live objects. Each object has the same serial, length and class in both
 /// heaps.
@@ -17,4 +18,9 @@ pub fn heaps_are_sound()
 /// outcome of a run of the whole list.
 pub fn runs_go_on()
     ensures { RunsGoOn }
+{}
+
+/// After a round, and until the next free of a small object, both heaps have no group without an object.
+pub fn rounds_leave_none_empty()
+    ensures { RoundsLeaveNoneEmpty }
 {}

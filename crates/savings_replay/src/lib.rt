@@ -29,5 +29,5 @@ pub use counts::{Counts, MeshCounts};
 pub use history_reading::RecordedEntry;
 pub use placement::Placement;
 pub use savings::Savings;
-pub use settings::{Settings, Words};
+pub use settings::{Rounds, Settings, Words};
 pub use taken::Taken;

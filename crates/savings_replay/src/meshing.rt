@@ -2,7 +2,7 @@
 ghost use Rattle.std.specs.Prelude.{◌≡◌, ◌+◌, ◌*◌, ◌<◌, ◌^◌, IfOk, OnOk, length, map};
 ghost use Rattle.savings_replay.specs.Records.{KeepsRecords};
 ghost use Rattle.mesh_search.specs.Pairs.{pairing};
-ghost use Rattle.savings_replay.specs.Mesher.{Fits, IsAsBefore, meshing_of};
+ghost use Rattle.savings_replay.specs.Mesher.{Fits, IsAsBefore, class_tries, meshing_of, round_tries};
 ghost use Rattle.savings_replay.specs.Meshing.{IsAfterPairs, class_meshed, class_sizes, classes_meshed, pair_meshed, pairs_meshed};
 
 use crate::counts::MeshCounts;
@@ -19,18 +19,23 @@ pub(crate) struct Mesher {
     pub placement: Placement,
     pub counts: MeshCounts,
     pub words: Xoshiro256PlusPlus,
+    /// The most members that a mesh may give a group.
+    pub members: u32,
 }
 
 impl Mesher {
     /// Meshes the group `source` into the group `destination`. If the mesh is refused, counts the refusal instead.
     fn mesh_pair(&mut self, source: u32, destination: u32)
-        requires { Fits self.old.counts 1 }
+        requires { Fits self.old.counts 1 0 }
         ensures value { meshing_of self.new ≡ pair_meshed (meshing_of self.old) (pairing (source, destination)) }
-        ensures counts { IsAfterPairs self.old.counts self.new.counts 1 }
+        ensures counts { IsAfterPairs self.old.counts self.new.counts 1 0 }
         ensures kept { IsAsBefore self.old self.new }
     {
         self.placement.sound();
-        match self.placement.mesh(source, destination) {
+        match self
+            .placement
+            .mesh_within(self.members, source, destination)
+        {
             Ok(meshed) => {
                 self.counts.meshes += 1;
                 self.counts.moved += u64::from(meshed.bytes);
@@ -41,9 +46,9 @@ impl Mesher {
 
     /// Meshes pairs of a source and a destination, in order.
     fn mesh_pairs(&mut self, pairs: &[(u32, u32)])
-        requires { Fits self.old.counts (length pairs.now) }
+        requires { Fits self.old.counts (length pairs.now) 0 }
         ensures value { meshing_of self.new ≡ pairs_meshed (meshing_of self.old) (map pairing pairs.now) }
-        ensures counts { IsAfterPairs self.old.counts self.new.counts (length pairs.now) }
+        ensures counts { IsAfterPairs self.old.counts self.new.counts (length pairs.now) 0 }
         ensures kept { IsAsBefore self.old self.new }
     {
         for pair in pairs {
@@ -54,23 +59,24 @@ impl Mesher {
 
     /// Searches a class, and meshes the pairs that the search finds.
     fn mesh_class(&mut self, alloc: Global, probe: u32, class: Class) -> Result<(), AllocError>
-        requires { Fits self.old.counts 32768 }
+        requires { Fits self.old.counts 32768 class_tries }
         ensures value { OnOk result (meshing_of self.new ≡ class_meshed probe (meshing_of self.old) class) }
-        ensures counts { IsAfterPairs self.old.counts self.new.counts 32768 }
+        ensures counts { IsAfterPairs self.old.counts self.new.counts 32768 class_tries }
         ensures kept { IsAsBefore self.old self.new }
     {
         let view = self.placement.view(alloc, class)?;
         let words = draw(alloc, &mut self.words, view.len())?;
         let found = search_one(alloc, &view, words.as_slice(), probe)?;
+        self.counts.tries += u128::from(found.probes);
         self.mesh_pairs(found.pairs.as_slice());
         Ok(())
     }
 
     /// Searches each class, from the smallest to the largest, and meshes the pairs that the searches find.
     pub(crate) fn mesh_classes(&mut self, alloc: Global, probe: u32) -> Result<(), AllocError>
-        requires { Fits self.old.counts 327680 }
+        requires { Fits self.old.counts 327680 round_tries }
         ensures value { OnOk result (meshing_of self.new ≡ classes_meshed probe (meshing_of self.old) class_sizes) }
-        ensures counts { IsAfterPairs self.old.counts self.new.counts 327680 }
+        ensures counts { IsAfterPairs self.old.counts self.new.counts 327680 round_tries }
         ensures kept { IsAsBefore self.old self.new }
     {
         let classes = all_classes();

@@ -7,16 +7,19 @@ ghost use Rattle.model_search.specs.Search.{view_of};
 ghost use Rattle.model_words.specs.Classes.{pages_of, table};
 ghost use Rattle.model_words.specs.declared.answers.NewFault.TheVariants.{Refused};
 ghost use Rattle.model_words.specs.declared.refusals.Refusal.TheVariants.{NoPages};
-ghost use Rattle.savings_replay.specs.ClassCounts.{class_objects, class_pages};
+ghost use Rattle.savings_replay.specs.ClassCounts.{class_objects, empty_pages, held_pages};
 ghost use Rattle.savings_replay.specs.ClassLaws.{FitsPages};
 ghost use Rattle.savings_replay.specs.Placement.{GoesToSpan, IsFreed, IsMade, IsNotMade, IsPlacement, supply, table_of};
 ghost use Rattle.mesh_spans.specs.Counts.{byte_count};
 ghost use Rattle.mesh_spans.specs.Index.{IsIndex, IsRecorded, record_at};
+ghost use Rattle.savings_replay.specs.Meshing.{members_at};
 
 mod meshes;
+mod pages;
 
 use crate::class_counts::ClassCounts;
 use crate::growth::add_span;
+use crate::placement::pages::empty_pages_at;
 use mesh_class::{Class, class_of};
 use mesh_search::{ClassView, class_view};
 use mesh_spans::{Slot, Span, Spans, Totals};
@@ -43,8 +46,8 @@ pub struct Placement {
     taken_pages: u32,
     // The serial of the next object.
     next_serial: u32,
-    // The number of physical pages of each class's groups.
-    class_pages: ClassCounts,
+    // The number of physical pages of each class's groups that have an object.
+    held_pages: ClassCounts,
     // The number of objects of each class.
     class_objects: ClassCounts,
 }
@@ -62,12 +65,12 @@ impl Model for Placement {
 
     ghost invariant = { λ p.
         IsPlacement (record { index = p.spans; next_page = p.next_page; taken_pages = p.taken_pages; next_serial = p.next_serial })
-        × AreClassCounts p.spans.groups p.class_pages.counts p.class_objects.counts };
+        × AreClassCounts p.spans.groups p.held_pages.counts p.class_objects.counts };
 }
 
 #[rattlefmt::skip]
 impl Drop for Placement {
-    fn drop(self) { let Placement { spans: _, next_page: _, taken_pages: _, next_serial: _, class_pages: _, class_objects: _ } = self; }
+    fn drop(self) { let Placement { spans: _, next_page: _, taken_pages: _, next_serial: _, held_pages: _, class_objects: _ } = self; }
 }
 
 impl Placement {
@@ -83,7 +86,7 @@ impl Placement {
             next_page: 1,
             taken_pages: 0,
             next_serial: 0,
-            class_pages: ClassCounts::none(),
+            held_pages: ClassCounts::none(),
             class_objects: ClassCounts::none(),
         })
     }
@@ -126,7 +129,9 @@ impl Placement {
             return self.new_in_span(class, len, word);
         };
         let (span, slot) = place;
+        let pages = empty_pages_at(&self.spans, span);
         self.spans.occupy(span, slot, self.next_serial, len);
+        self.held_pages.raise(class, pages);
         self.class_objects.raise(class, 1);
         self.next_serial += 1;
         Ok(place)
@@ -154,7 +159,7 @@ impl Placement {
         };
         let slot = Slot::numbered((word % u64::from(class.slots())) as u32);
         self.spans.occupy(span, slot, self.next_serial, len);
-        self.class_pages.raise(class, count);
+        self.held_pages.raise(class, count);
         self.class_objects.raise(class, 1);
         self.next_page += count;
         self.taken_pages += count;
@@ -193,7 +198,21 @@ impl Placement {
         self.spans.sound();
         let class = self.spans.class_of(span);
         self.spans.vacate(span, slot);
+        let pages = empty_pages_at(&self.spans, span);
+        self.held_pages.lower(class, pages);
         self.class_objects.lower(class, 1);
+    }
+
+    /// The number of members of a group, or 0 if no group has the number.
+    pub(crate) fn members_of(&self, number: u32) -> u32
+        ensures value { result ≡ members_at (table_of self.now) number }
+        ensures few { result ≤ 8 }
+    {
+        self.spans.sound();
+        match self.spans.group(number) {
+            Some(group) => group.members().len() as u32,
+            None => 0,
+        }
     }
 
     /// The number of physical pages of all groups together.
@@ -220,13 +239,21 @@ impl Placement {
         self.spans.totals()
     }
 
-    /// The number of physical pages of the groups of each class, in the order of the class table. The call visits no
-    /// group.
-    pub fn pages_by_class(&self) -> &[u32; 10]
-        ensures value { result.now ≡ map (λ row. class_pages (table_of self.now) row.size) table }
+    /// The number of physical pages of all groups that have no object. The call visits no group.
+    pub fn empty_pages(&self) -> u32
+        ensures value { result ≡ empty_pages (table_of self.now) }
+        ensures few { result ≤ 65538 }
+    {
+        self.taken_pages - self.held_pages.total()
+    }
+
+    /// For each class, in the order of the class table, the number of physical pages of the groups that have an object.
+    /// The call visits no group.
+    pub fn held_pages_by_class(&self) -> &[u32; 10]
+        ensures value { result.now ≡ map (λ row. held_pages (table_of self.now) row.size) table }
         ensures few { All (λ n. n ≤ 65538) result.now }
     {
-        self.class_pages.by_class()
+        self.held_pages.by_class()
     }
 
     /// The number of objects of each class, in the order of the class table. The call visits no group.

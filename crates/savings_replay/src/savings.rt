@@ -1,6 +1,7 @@
 //! `Savings`: the replay on both heaps.
 ghost use Rattle.std.specs.Prelude.{◌≡◌, ◌≢◌, ℕ, ◌+◌, ◌≤◌, ◌<◌, ◌-◌, ◌^◌, ◌↔◌, false, None, Some, IfOk, IfSome, IsTrue};
 ghost use Rattle.model_words.specs.Classes.{class_for};
+ghost use Rattle.savings_replay.specs.Counts.{IsFew};
 ghost use Rattle.savings_replay.specs.Placement.{table_of};
 ghost use Rattle.savings_replay.specs.Followed.{Followed, aliased, freed, made, object_in, start, step};
 ghost use Rattle.savings_replay.specs.Follows.{Follows, HasNumbers, IsTaken};
@@ -51,7 +52,7 @@ impl Savings {
         ensures settings { IfOk result (λ savings. savings.settings ≡ settings) }
     {
         let seed = settings.words.new_seed();
-        let heaps = TwoHeaps::open(alloc, seed.wrapping_add(1))?;
+        let heaps = TwoHeaps::open(alloc, seed.wrapping_add(1), settings.members)?;
         Ok(Savings {
             alloc,
             settings,
@@ -101,6 +102,7 @@ impl Savings {
     /// Returns the counts of the calls so far.
     pub fn counts(&self) -> Counts
         ensures counts { result ≡ self.now.counts }
+        ensures few { IsFew result }
         ensures follows { (f : Followed) → Follows self.now f → result ≡ f.counts }
     {
         self.counts
@@ -157,10 +159,11 @@ impl Savings {
         };
         match object {
             Object::Small(places) => {
-                let is_due = self.settings.is_due(self.counts.freed + 1);
+                let live = self.heaps.free(places);
+                let is_due = self.settings.rounds.is_due(self.counts.since + 1, live);
                 self.counts = self.counts.small_free(is_due);
                 self.heaps
-                    .free_and_round(self.alloc, places, is_due, self.settings.probe)?;
+                    .round_if_due(self.alloc, is_due, self.settings.probe)?;
             }
             Object::Large(len) => self.counts = self.counts.large_free(len),
         }

@@ -13,12 +13,23 @@ pub enum Words {
     FirstFit,
 }
 
+/// When a round follows a free of an object of up to 2,048 bytes.
+#[derive(Clone, Copy, Debug, PartialEq, Eq)]
+pub enum Rounds {
+    /// `Every(frees)`: after this many frees since the last round. If the number is 0, no round is made.
+    Every(u32),
+    /// `Share(part)`: after at least 64 frees since the last round, if the number of these frees, times `part`, is at
+    /// least the number of live objects of up to 2,048 bytes.
+    Share(u32),
+}
+
 /// The settings of a replay on two heaps.
 #[derive(Clone, Copy, Debug, PartialEq, Eq)]
 pub struct Settings {
-    /// The number of frees from one round to the next. Only frees of objects of up to 2,048 bytes are counted. If the
-    /// number is 0, no round is made.
-    pub every: u32,
+    /// When rounds are made.
+    pub rounds: Rounds,
+    /// The most members that a mesh may give a group. A group never has more than 8.
+    pub members: u32,
     /// The maximal number of rounds of tries in a search.
     pub probe: u32,
     /// The source of the words for `new` and for shuffles.
@@ -37,11 +48,16 @@ impl Words {
     }
 }
 
-impl Settings {
-    /// Whether a round follows the free with this number, counted from 1.
-    pub(crate) fn is_due(&self, free: u32) -> bool
-        ensures { result ≡ is_due self.now.every free }
+impl Rounds {
+    /// Whether a round follows a free. It is the free number `since` after the last round, counted from 1, and `live`
+    /// objects of up to 2,048 bytes are left.
+    pub(crate) fn is_due(self, since: u32, live: u32) -> bool
+        ensures { result ≡ is_due self since live }
     {
-        self.every != 0 && free % self.every == 0
+        match self {
+            Rounds::Every(frees) => since == frees,
+            Rounds::Share(part) => since >= 64
+                && u64::from(since) * u64::from(part) >= u64::from(live),
+        }
     }
 }

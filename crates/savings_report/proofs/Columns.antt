@@ -1,15 +1,17 @@
 -- Figures of columns of numbers of which one is at most the other, number by number.
-use Rattle.std.proofs.Common.{◌≡◌, ℕ, zero, suc, ◌+◌, ◌-◌, ◌*◌, ◌/◌, ◌<◌, ◌≤◌, List, [], ◌∷◌, length, map, slice_index, sum, take, sym, subst, ◌∙◌, arith, inl, inr}
+use Rattle.std.proofs.Common.{◌≡◌, ℕ, zero, suc, ◌+◌, ◌-◌, ◌*◌, ◌/◌, ◌<◌, ◌≤◌, Bool, true, false, if◌then◌else◌, Option, Some, List, [], ◌∷◌, length, map, slice_index, sum, take, sym, subst, ◌∙◌, arith, inl, inr}
 use Rattle.std.proofs.Math.Nat.{div-mul-le_self}
 use Rattle.std.proofs.lemmas.Bool.Decides.{eqb_tells}
 use Rattle.std.proofs.lemmas.List.{length-map}
 use Rattle.std.proofs.lemmas.Nat.{le-div}
 use Rattle.std.proofs.lemmas.List.Elements.{All-drop, All-take}
 use Rattle.std.proofs.lemmas.List.Sums.{sum_by-cons}
-use Rattle.std.specs.List.{All}
-use Rattle.savings_report.specs.FigureSamples.{last, mean, mean_of, measured, peak, rounded, total}
+use Rattle.std.specs.List.{All, find}
+use Rattle.savings_report.specs.FigureSamples.{first_call, last, live_pages, mean, mean_of, measured, moment, moments_from, peak, rounded, row_at, total}
+use Rattle.savings_report.specs.declared.table.moments.Moment.{Moment}
 use Rattle.savings_report.specs.declared.table.samples.Sample.{Sample}
-use Rattle.savings_report.specs.Laws.{AreLeastFigures, IsLeast, PerfectFiguresAreLeast}
+use Rattle.savings_report.specs.declared.table.samples.Window.{Window}
+use Rattle.savings_report.specs.Laws.{AreLeastRows, IsLeast, IsLeastRow, PerfectFiguresAreLeast}
 
 -- no number is above the one at its place
 abbrev AreBelow : List ℕ → List ℕ → Type 0
@@ -56,17 +58,45 @@ maps_below f g (s ∷ samples) all (suc k) = maps_below f g samples (λ j d belo
 maps_as_long : (f g : Sample → ℕ) (samples : List Sample) → length (map f samples) ≡ length (map g samples)
 maps_as_long f g samples = length-map samples f ∙ sym (length-map samples g)
 
-figures : (samples : List Sample) → All IsLeast samples → AreLeastFigures samples
-figures samples least =
+-- a moment that is searched for among those of the samples
+either_row : (b : Bool) (m : Moment) (rest : Option Moment) → IsLeastRow (row_at (Some m)) → IsLeastRow (row_at rest)
+    → IsLeastRow (row_at (if b then Some m else rest))
+either_row true m rest one others = one
+either_row false m rest one others = others
+
+found_row : (p : Moment → Bool) (call : ℕ) (samples : List Sample) → All IsLeast samples → IsLeastRow (row_at (find p (moments_from call samples)))
+found_row p call [] least = record { without = omega arith; with = omega arith; live = omega arith }
+found_row p call (s ∷ samples) least =
+    let here : IsLeast s = least 0 s (omega arith) in
+    either_row (p (moment call s)) (moment call s) (find p (moments_from (call + 1) samples))
+    (record { without = sum_below _ _ here.without; with = sum_below _ _ here.with; live = here.live })
+    (found_row p (call + 1) samples (λ j d below. least (suc j) d (omega (arith, below))))
+
+rows_of : (window : Window) (samples : List Sample) → All IsLeast (measured window samples) → AreLeastRows window samples
+rows_of window samples least =
+    let these : List Sample = measured window samples in
     let perfect : Sample → ℕ = λ s. total s.perfect in
     let without : Sample → ℕ = λ s. total s.without in
     let with : Sample → ℕ = λ s. total s.with in
-    let a : AreBelow (map perfect samples) (map without samples) = maps_below perfect without samples (λ k d below. sum_below _ _ (least k d below).without) in
-    let b : AreBelow (map perfect samples) (map with samples) = maps_below perfect with samples (λ k d below. sum_below _ _ (least k d below).with) in record {
-      peaks = record { without = peak_below _ _ a; with = peak_below _ _ b };
-      means = record { without = mean_below _ _ (maps_as_long perfect without samples) a; with = mean_below _ _ (maps_as_long perfect with samples) b };
-      ends = record { without = last_below _ _ (maps_as_long perfect without samples) a; with = last_below _ _ (maps_as_long perfect with samples) b };
+    let a : AreBelow (map perfect these) (map without these) = maps_below perfect without these (λ k d below. sum_below _ _ (least k d below).without) in
+    let b : AreBelow (map perfect these) (map with these) = maps_below perfect with these (λ k d below. sum_below _ _ (least k d below).with) in
+    let c : AreBelow (map live_pages these) (map perfect these) = maps_below live_pages perfect these (λ k d below. (least k d below).live) in record {
+      peaks = record { without = peak_below _ _ a; with = peak_below _ _ b; live = peak_below _ _ c };
+      means =
+          record {
+            without = mean_below _ _ (maps_as_long perfect without these) a;
+            with = mean_below _ _ (maps_as_long perfect with these) b;
+            live = mean_below _ _ (maps_as_long live_pages perfect these) c;
+          };
+      most_live = found_row _ (first_call window) these least;
+      ends =
+          record {
+            without = last_below _ _ (maps_as_long perfect without these) a;
+            with = last_below _ _ (maps_as_long perfect with these) b;
+            live = last_below _ _ (maps_as_long live_pages perfect these) c;
+          };
     }
 
 pub least_figures : PerfectFiguresAreLeast
-least_figures window samples least = figures (measured window samples) (All-drop IsLeast (window.from - 1) (take window.to samples) (All-take IsLeast window.to samples least))
+least_figures window samples least =
+    rows_of window samples (All-drop IsLeast (window.from - 1) (take window.to samples) (All-take IsLeast window.to samples least))

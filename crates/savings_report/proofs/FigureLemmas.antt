@@ -5,8 +5,9 @@ use Rattle.std.proofs.lemmas.List.{append-nil, map-append, get_or_push, length_p
 use Rattle.std.proofs.lemmas.List.Sums.{sum_by_push, sum_by-le}
 use Rattle.std.proofs.lemmas.Nat.{div-add-mod', div-mul-add, mod_below}
 use Rattle.std.proofs.Math.ListN.{get_or-map}
-use Rattle.savings_report.specs.FigureSamples.{rounded, mean, mean_of, peak, last, total, of_class, AreFew}
-use Rattle.savings_report.specs.Figures.{IsLevel, IsColumn, no_sample, last_sample}
+use Rattle.std.proofs.Math.Nat.{add-mul}
+use Rattle.savings_report.specs.FigureSamples.{rounded, mean, mean_of, peak, last, total, of_class, live_pages, all_with, all_without, row_by, AreFew}
+use Rattle.savings_report.specs.Figures.{IsLevel, IsLevelIn, IsColumn, no_sample, last_sample}
 use Rattle.savings_report.specs.declared.table.samples.Sample.{Sample}
 use Rattle.savings_report.specs.declared.table.levels.Level.{Level}
 use Rattle.savings_report.specs.declared.table.levels.Column.{Column}
@@ -45,6 +46,18 @@ level_push old new ns n p s h =
       sum_is = s ∙ ap (λ (m : ℕ). m + n) h.sum_is ∙ sym (sum_push ns n);
     }
 
+-- one more sample, whose number is added to the level
+pub level_of : (new : Level) (f : Sample → ℕ) (samples : List Sample) (s : Sample) (n : ℕ) → n ≡ f s → IsLevel new (map f samples ++ n ∷ [])
+    → IsLevel new (map f (samples ++ s ∷ []))
+level_of new f samples s n e h =
+    subst (λ (ns : List ℕ). IsLevel new ns) (ap (λ (m : ℕ). map f samples ++ m ∷ []) e ∙ sym (map-append f samples (s ∷ []))) h
+
+-- one more number within bounds
+pub level_in_push : (old new : Level) (most count n : ℕ) → new.peak ≡ max old.peak n → new.sum ≡ old.sum + n → n ≤ most → IsLevelIn old most count
+    → IsLevelIn new most (count + 1)
+level_in_push old new most count n p s small h =
+    let more = add-mul count 1 most in record { peak_in = omega (arith, h.peak_in); sum_in = omega (arith, h.sum_in, more) }
+
 -- one more sample
 pub column_push : (old new : Column) (samples : List (List ℕ)) (pages : List ℕ)
     → ((ns : List ℕ) → IsLevel old.total ns → IsLevel new.total (ns ++ sum pages ∷ []))
@@ -73,6 +86,11 @@ last_map f samples none =
     sym (get_or-map f samples (length samples - 1) no_sample) ∙ ap (λ (d : ℕ). get_or (map f samples) (length samples - 1) d) none
     ∙ ap (λ (n : ℕ). get_or (map f samples) (n - 1) 0) (sym (length-map samples f))
 
+-- what is computed of the last sample
+pub last_of : (f : Sample → ℕ) (samples : List Sample) (end : Sample) (n : ℕ) → end ≡ last_sample samples → f no_sample ≡ 0 → n ≡ f end
+    → n ≡ last (map f samples)
+last_of f samples end n is none e = e ∙ ap f is ∙ last_map f samples none
+
 pub last_sample_push : (samples : List Sample) (s : Sample) → last_sample (samples ++ s ∷ []) ≡ s
 last_sample_push samples s = get_or_push samples s no_sample (length (samples ++ s ∷ []) - 1) (omega (arith, length_push samples s))
 
@@ -94,6 +112,11 @@ pub seven_pieces : (o p q r s t u v a b c d e f g : List ℕ) → p ≡ o ++ a �
 seven_pieces o p q r s t u v a b c d e f g h i j k l m n =
     n ∙ ap (λ (x : List ℕ). x ++ g) (six_pieces o p q r s t u a b c d e f h i j k l m) ∙ append_assoc o (a ++ b ++ c ++ d ++ e ++ f) g
 
+pub eight_pieces : (o p q r s t u v w a b c d e f g h : List ℕ) → p ≡ o ++ a → q ≡ p ++ b → r ≡ q ++ c → s ≡ r ++ d → t ≡ s ++ e → u ≡ t ++ f → v ≡ u ++ g
+    → w ≡ v ++ h → w ≡ o ++ (a ++ b ++ c ++ d ++ e ++ f ++ g ++ h)
+eight_pieces o p q r s t u v w a b c d e f g h i j k l m n x y =
+    y ∙ ap (λ (z : List ℕ). z ++ h) (seven_pieces o p q r s t u v a b c d e f g i j k l m n x) ∙ append_assoc o (a ++ b ++ c ++ d ++ e ++ f ++ g) h
+
 pub map_twice : {X Y Z : Type 0} (f : X → Y) (g : Y → Z) (xs : List X) → map g (map f xs) ≡ map (λ x. g (f x)) xs
 map_twice f g [] = refl
 map_twice f g (x ∷ xs) = ap (λ ys. g (f x) ∷ ys) (map_twice f g xs)
@@ -107,6 +130,26 @@ lines_step line k old new below e =
 
 pub lines_end : (line : ℕ → List ℕ) (k : ℕ) (text : List ℕ) → 10 ≤ k → text ++ flat_map line (range_with_len k (10 - k)) ≡ text
 lines_end line k text all = let left : 10 - k ≡ 0 = omega arith in rw left (append-nil text)
+
+-- the row with these numbers
+pub row_is : (figure : List ℕ → ℕ) (samples : List Sample) (w m p l g x y : ℕ) → w ≡ figure (map (λ (s : Sample). total s.without) samples)
+    → m ≡ figure (map (λ (s : Sample). total s.with) samples) → p ≡ figure (map (λ (s : Sample). total s.perfect) samples)
+    → l ≡ figure (map live_pages samples) → g ≡ figure (map (λ (s : Sample). s.large_pages) samples) → x ≡ figure (map all_without samples)
+    → y ≡ figure (map all_with samples)
+    → record { small = record { without = w; with = m; perfect = p }; live = l; large = g; all = record { without = x; with = y } } ≡ row_by figure samples
+row_is figure samples w m p l g x y a b c d e f h = rw (a, b, c, d, e, f, h) refl
+
+-- the level of the totals
+pub total_level : (column : Column) (f : Sample → List ℕ) (samples : List Sample) → IsColumn column (map f samples)
+    → IsLevel column.total (map (λ s. total (f s)) samples)
+total_level column f samples h = subst (IsLevel column.total) (map_twice f total samples) h.total_is
+
+-- the mean of the numbers of a level, from their sum
+pub level_mean : (level : Level) (f : Sample → ℕ) (samples : List Sample) (count n : ℕ) → IsLevel level (map f samples) → count ≡ length samples
+    → n ≡ mean_of level.sum count → n ≡ mean (map f samples)
+level_mean level f samples count n h many e =
+    let length_is : count ≡ length (map f samples) = many ∙ sym (length-map samples f) in
+    e ∙ ap (λ (m : ℕ). mean_of m count) h.sum_is ∙ ap (mean_of (sum (map f samples))) length_is
 
 -- the mean of a class, from its sum
 pub class_mean : (column : Column) (f : Sample → List ℕ) (samples : List Sample) (k count n : ℕ) → k < 10 → IsColumn column (map f samples)

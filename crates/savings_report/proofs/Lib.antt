@@ -1,12 +1,14 @@
 pub mod Columns
+mod CourseLemmas
 mod FigureLemmas
 pub mod FollowedInputs
+mod MomentLemmas
 pub mod PerfectPages
 mod PieceLemmas
+mod PlotTexts
 mod PlotWindows
 pub mod Results
 pub mod RunSteps
 pub mod SampleTables
-mod SavingLemmas
 mod SpanLemmas
 pub mod TableWindows

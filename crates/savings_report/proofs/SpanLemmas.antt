@@ -4,7 +4,7 @@ use Rattle.std.specs.List.{All}
 use Rattle.std.proofs.lemmas.List.{map-append, length-map}
 use Rattle.std.proofs.lemmas.List.Sums.{sum_by-le}
 use Rattle.savings_report.specs.FigureSamples.{peak, AreFew}
-use Rattle.savings_report.specs.Intervals.{least, least_with, span_of}
+use Rattle.savings_report.specs.Intervals.{last_reading, last_with, least, least_with, span_of}
 use Rattle.savings_report.specs.declared.plot.readings.Reading.{Reading}
 use Rattle.savings_report.specs.declared.plot.spans.Span.{Span}
 
@@ -33,6 +33,16 @@ least_append (n ∷ ns) (m ∷ ms) _ _ = least_with_append n m ns ms
 pub peak_append : (ns ms : List ℕ) → peak (ns ++ ms) ≡ max (peak ns) (peak ms)
 peak_append [] ms = omega arith
 peak_append (n ∷ ns) ms = rw (peak_append ns ms) (omega arith)
+
+last_with_append : (r s : Reading) (rs ss : List Reading) → last_with r (rs ++ s ∷ ss) ≡ last_with s ss
+last_with_append r s [] ss = refl
+last_with_append r s (q ∷ rs) ss = last_with_append q s rs ss
+
+-- the last reading of the calls of both
+pub last_append : (these those : List Reading) → 0 < length those → last_reading (these ++ those) ≡ last_reading those
+last_append these [] some = absurd (omega arith)
+last_append [] (s ∷ those) some = refl
+last_append (r ∷ these) (s ∷ those) some = last_with_append r s these those
 
 -- a curve's span of the calls of both
 pub joined_span : (f : Reading → ℕ) (span a b : Span) (these those : List Reading) → 0 < length these → 0 < length those

@@ -9,13 +9,21 @@ use Rattle.savings_report.specs.declared.plot.spans.Span.{Span}
 use Rattle.savings_report.specs.declared.plot.spans.Interval.{Interval}
 use Rattle.savings_report.specs.declared.plot.intervals.Intervals.{Intervals}
 
--- the values of the four curves after a call: the pages of all classes together, and the live bytes in whole pages,
--- rounded up
+-- the numbers after a call: the values of the four curves (the pages of all classes together, and the live bytes in
+-- whole pages, rounded up), the pages of large objects, and the pages of empty groups
 abbrev pub reading : Sample → Reading
 reading sample =
-    record { without = total sample.without; with = total sample.with; perfect = total sample.perfect; live = live_pages sample }
+    record {
+      without = total sample.without;
+      with = total sample.with;
+      perfect = total sample.perfect;
+      live = live_pages sample;
+      large = sample.large_pages;
+      empty_without = sample.empty_without;
+      empty_with = sample.empty_with;
+    }
 
--- the values of the four curves after each measured call
+-- the numbers after each measured call
 abbrev pub readings : Window → List Sample → List Reading
 readings window samples = map reading (measured window samples)
 
@@ -33,10 +41,24 @@ least (n ∷ ns) = least_with n ns
 abbrev pub span_of : List ℕ → Span
 span_of ns = record { least = least ns; greatest = peak ns }
 
--- the least and the greatest value of each curve
+abbrev pub no_reading : Reading
+no_reading = record { without = 0; with = 0; perfect = 0; live = 0; large = 0; empty_without = 0; empty_with = 0 }
+
+-- the last of `r` and these readings
+abbrev pub last_with : Reading → List Reading → Reading
+last_with r [] = r
+last_with r (s ∷ rs) = last_with s rs
+
+-- the last reading, zeros for none
+abbrev pub last_reading : List Reading → Reading
+last_reading [] = no_reading
+last_reading (r ∷ rs) = last_with r rs
+
+-- the last reading, and the least and the greatest value of each curve
 abbrev pub interval_of : List Reading → Interval
 interval_of rs =
     record {
+      last = last_reading rs;
       without = span_of (map (λ (r : Reading). r.without) rs);
       with = span_of (map (λ (r : Reading). r.with) rs);
       perfect = span_of (map (λ (r : Reading). r.perfect) rs);
@@ -58,7 +80,7 @@ abbrev pub no_span : Span
 no_span = record { least = 0; greatest = 0 }
 
 abbrev pub no_interval : Interval
-no_interval = record { without = no_span; with = no_span; perfect = no_span; live = no_span }
+no_interval = record { last = no_reading; without = no_span; with = no_span; perfect = no_span; live = no_span }
 
 abbrev pub interval_at : List Interval → ℕ → Interval
 interval_at intervals k = slice_index_or intervals k no_interval

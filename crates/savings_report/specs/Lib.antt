@@ -1,3 +1,5 @@
+pub mod Courses
+pub mod CsvTexts
 pub mod FigureSamples
 pub mod FigureTexts
 pub mod Figures
@@ -5,6 +7,7 @@ pub mod Gathered
 pub mod Inputs
 pub mod Intervals
 pub mod Laws
+pub mod PlotCurves
 pub mod Reports
 pub mod Runs
 pub mod Samples

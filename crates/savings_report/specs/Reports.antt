@@ -1,8 +1,11 @@
 -- The report of a recorded history: what its calls led to, or why there is no such result.
-use Rattle.std.specs.Prelude.{◌≡◌, ℕ, ◌+◌, List, [], ◌∷◌, ◌++◌, Option, Some, None, codes, length}
+use Rattle.std.specs.Prelude.{◌≡◌, ℕ, ◌+◌, List, [], ◌∷◌, ◌++◌, Option, Some, None, length}
 use Rattle.model_memory.specs.Plain.{Entry}
 use Rattle.model_words.specs.declared.faults.TextFault.{TextFault}
+use Rattle.savings_report.specs.Courses.{series_of}
+use Rattle.savings_report.specs.CsvTexts.{csv_text}
 use Rattle.savings_report.specs.FigureTexts.{figures_text}
+use Rattle.savings_report.specs.PlotCurves.{IsPlot}
 use Rattle.savings_report.specs.declared.table.samples.Counts.{Counts}
 use Rattle.savings_report.specs.declared.table.samples.Sample.{Sample}
 use Rattle.savings_report.specs.declared.table.samples.Window.{Window}
@@ -13,9 +16,8 @@ use Rattle.savings_replay.specs.declared.calls.Call.{Call}
 use Rattle.savings_replay.specs.declared.settings.Settings.{Settings}
 use Rattle.savings_report.specs.Samples.{counts_of, sample_of}
 use Rattle.savings_report.specs.declared.options.Form.{Form}
-use Rattle.savings_report.specs.declared.options.Form.TheVariants.{Plot, Table}
+use Rattle.savings_report.specs.declared.options.Form.TheVariants.{Csv, Plot, Table}
 use Rattle.savings_report.specs.declared.options.SavingsOptions.{SavingsOptions}
-use Rattle.draw_svg.specs.Begins.{Begins}
 
 -- the report of a history
 pub data Report : Type 0 where
@@ -60,11 +62,12 @@ abbrev pub report_with : Option ℕ → Followed → List Sample → Report
 report_with None f samples = Whole f samples
 report_with (Some call) f samples = UsedUp call f samples
 
--- the text shows these samples in this form: as the table, or as a plot, of which only the beginning is specified, that
--- of an SVG file
+-- the text shows these samples in this form: as the table, as a plot of the curves of the measured calls, or as the
+-- numbers of each interval
 abbrev pub IsShownAs : Form → Window → List Sample → Counts → List ℕ → Type 0
 IsShownAs Table window samples counts text = text ≡ figures_text window samples counts
-IsShownAs Plot window samples counts text = Begins (codes "<svg") text
+IsShownAs Plot window samples counts text = IsPlot (series_of window samples) text
+IsShownAs Csv window samples counts text = text ≡ csv_text window samples
 
 -- the text shows what calls led to, in the form that the options ask for
 abbrev pub IsShown : SavingsOptions → Followed → List Sample → List ℕ → Type 0

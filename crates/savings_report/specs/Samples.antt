@@ -4,14 +4,14 @@ use Rattle.model_heap.specs.Table.{Table}
 use Rattle.model_words.specs.Classes.{table}
 use Rattle.savings_report.specs.declared.table.samples.Counts.{Counts}
 use Rattle.savings_report.specs.declared.table.samples.Sample.{Sample}
-use Rattle.savings_replay.specs.ClassCounts.{class_objects, class_pages}
+use Rattle.savings_replay.specs.ClassCounts.{class_objects, empty_pages, held_pages}
 use Rattle.savings_replay.specs.ClassLaws.{pages_needed}
 use Rattle.savings_replay.specs.Followed.{Followed}
 use Rattle.mesh_spans.specs.Counts.{byte_count}
 
--- the physical pages of each class, in the order of the class table
-abbrev pub physical_pages : Table → List ℕ
-physical_pages t = map (λ row. class_pages t row.size) table
+-- the pages of the held groups of each class, in the order of the class table
+abbrev pub held_by_class : Table → List ℕ
+held_by_class t = map (λ row. held_pages t row.size) table
 
 -- for each class, the pages of the fewest spans in which its objects fit
 abbrev pub perfect_pages : Table → List ℕ
@@ -24,10 +24,13 @@ live_bytes t = sum_by byte_count t.groups
 -- the sample of both heaps. The heaps have the same objects, so perfect packing and live bytes are equal for both
 unfoldable pub sample_of : Followed → Sample
 sample_of f = record {
-  without = physical_pages f.heaps.without;
-  with = physical_pages f.heaps.meshing.table;
+  without = held_by_class f.heaps.without;
+  with = held_by_class f.heaps.meshing.table;
   perfect = perfect_pages f.heaps.without;
   live_bytes = live_bytes f.heaps.without;
+  large_pages = f.counts.large_pages;
+  empty_without = empty_pages f.heaps.without;
+  empty_with = empty_pages f.heaps.meshing.table;
 }
 
 -- the counts of the calls so far, and the virtual pages that the meshing heap used
@@ -35,11 +38,11 @@ unfoldable pub counts_of : Followed → Counts
 counts_of f = record {
   most_objects = f.counts.most_small;
   large = f.counts.large;
-  most_large_pages = f.counts.most_large_pages;
   meshes = f.heaps.meshing.counts.meshes;
   refused = f.heaps.meshing.counts.refused;
   copied = f.heaps.meshing.counts.moved;
   rounds = f.counts.rounds;
+  tries = f.heaps.meshing.counts.tries;
   virtual_pages = f.heaps.meshing.table.next_page - 1;
   used = f.counts.used;
 }

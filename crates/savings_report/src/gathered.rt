@@ -1,11 +1,12 @@
-//! `Gathered`: the data for a table or a plot, gathered from a sample after each call.
+//! `Gathered`: the data for a table, a plot or comma-separated values, gathered from a sample after each call.
 ghost use Rattle.std.specs.Prelude.{◌≡◌, ◌-◌, ◌<◌, ◌≤◌, ◌^◌, ◌↔◌, ◌++◌, ◌∷◌, [], List, IfOk, IsTrue};
-ghost use Rattle.savings_report.specs.FigureSamples.{AreFew};
+ghost use Rattle.savings_report.specs.FigureSamples.{IsBounded};
 ghost use Rattle.savings_report.specs.declared.table.samples.Sample.{Sample};
 ghost use Rattle.savings_report.specs.Gathered.{IsOf, calls_in};
 ghost use Rattle.savings_report.specs.Reports.{IsShownAs};
 ghost use Rattle.savings_report.specs.declared.options.SavingsOptions.{SavingsOptions};
 
+use crate::csv::csv_text;
 use crate::options::{Form, SavingsOptions};
 use crate::plot::Curves;
 use crate::table::{Counts, Figures, Sample};
@@ -18,6 +19,8 @@ pub(crate) enum Gathered {
     Table(Figures),
     /// The curves for a plot.
     Plot(Curves),
+    /// The same curves for comma-separated values.
+    Csv(Curves),
 }
 
 impl Gathered {
@@ -28,6 +31,7 @@ impl Gathered {
         match options.form {
             Form::Table => Ok(Gathered::Table(Figures::new(options.window))),
             Form::Plot => Ok(Gathered::Plot(Curves::new(alloc, options.window)?)),
+            Form::Csv => Ok(Gathered::Csv(Curves::new(alloc, options.window)?)),
         }
     }
 
@@ -37,28 +41,26 @@ impl Gathered {
     {
         match self {
             Gathered::Table(figures) => figures.is_full(),
-            Gathered::Plot(curves) => curves.is_full(),
+            Gathered::Plot(curves) | Gathered::Csv(curves) => curves.is_full(),
         }
     }
 
     /// Adds the sample of both heaps after the next call.
     pub(crate) fn look(&mut self, sample: &Sample)
         requires room { calls_in self.old < 2 ^ 32 - 1 }
-        requires without { AreFew sample.now.without }
-        requires with { AreFew sample.now.with }
-        requires perfect { AreFew sample.now.perfect }
-        requires bytes { sample.now.live_bytes < 2 ^ 40 }
+        requires bounded { IsBounded sample.now }
         ensures { (options : SavingsOptions) (samples : List Sample) → IsOf self.old options samples
             → IsOf self.new options (samples ++ sample.now ∷ []) }
     {
         match self {
             Gathered::Table(figures) => figures.look(sample),
             Gathered::Plot(curves) => curves.look(sample),
+            Gathered::Csv(curves) => curves.look(sample),
         }
     }
 
-    /// Returns the text of the table or of the plot. A table also shows `counts`, the counts of the whole run. A plot
-    /// shows no counts.
+    /// Returns the text of the table, of the plot, or of the comma-separated values. Only a table shows `counts`, the
+    /// counts of the whole run.
     pub(crate) fn text(&self, alloc: Global, counts: &Counts) -> Result<Vec<u8>, AllocError>
         ensures { (options : SavingsOptions) (samples : List Sample) → IsOf self.now options samples
             → IfOk result (λ text. IsShownAs options.form options.window samples counts.now text.items) }
@@ -66,6 +68,7 @@ impl Gathered {
         match self {
             Gathered::Table(figures) => figures.text(alloc, counts),
             Gathered::Plot(curves) => curves.picture(alloc),
+            Gathered::Csv(curves) => csv_text(alloc, curves),
         }
     }
 }

@@ -9,6 +9,7 @@
 //! An `AllocError` means that an allocation failed.
 #![tactic(auto)]
 
+mod csv;
 mod errors;
 mod gathered;
 mod inputs;
@@ -24,5 +25,5 @@ pub use errors::SavingsError;
 pub use inputs::report;
 pub use options::{Form, SavingsOptions};
 pub use reports::Report;
-pub use savings_replay::{Settings, Words};
+pub use savings_replay::{Rounds, Settings, Words};
 pub use table::Window;

@@ -21,4 +21,6 @@ pub enum Form {
     Table,
     /// The plot of the pages of both heaps over the calls, as an SVG file.
     Plot,
+    /// The numbers of each interval, as comma-separated values.
+    Csv,
 }

@@ -1,6 +1,8 @@
 //! A plot of the pages of two heaps, one of which meshes, over the calls of a recorded program.
 mod axes;
+mod courses;
 mod curves;
+mod ends;
 mod intervals;
 mod legend;
 mod lines;
@@ -11,4 +13,6 @@ mod spans;
 mod style;
 mod words;
 
+pub use courses::Course;
 pub use curves::Curves;
+pub use spans::Interval;

@@ -1,6 +1,6 @@
 //! The sample of both heaps after a call, and the counts of a run.
-ghost use Rattle.std.specs.Prelude.{◌≡◌, ◌<◌, ◌≤◌, ◌^◌};
-ghost use Rattle.savings_report.specs.FigureSamples.{AreFew};
+ghost use Rattle.std.specs.Prelude.{◌≡◌, ◌≤◌, ◌^◌};
+ghost use Rattle.savings_report.specs.FigureSamples.{IsBounded};
 ghost use Rattle.savings_replay.specs.ClassLaws.{FitsPages, pages_needed};
 ghost use Rattle.savings_replay.specs.Placement.{table_of};
 ghost use Rattle.savings_replay.specs.Followed.{Followed};
@@ -11,20 +11,22 @@ use crate::table::{Counts, Sample};
 use mesh_class::{Class, all_classes};
 use savings_replay::{Placement, Savings};
 
-/// Returns the sample of both heaps: the pages of each heap, the pages with perfect packing, and the live bytes.
+/// Returns the sample of both heaps: the pages of each heap, the pages with perfect packing, the live bytes, and the
+/// pages of large objects.
 pub(crate) fn sample_of(savings: &Savings) -> Sample
     ensures value { (f : Followed) → Follows savings.now f → result ≡ sample_of f }
-    ensures without { AreFew result.without }
-    ensures with { AreFew result.with }
-    ensures perfect { AreFew result.perfect }
-    ensures bytes { result.live_bytes < 2 ^ 40 }
+    ensures bounded { IsBounded result }
 {
     let without = savings.without();
+    let with = savings.with();
     Sample {
-        without: *without.pages_by_class(),
-        with: *savings.with().pages_by_class(),
+        without: *without.held_pages_by_class(),
+        with: *with.held_pages_by_class(),
         perfect: perfect_pages(without),
         live_bytes: u64::from(without.totals().bytes),
+        large_pages: savings.counts().large_pages,
+        empty_without: without.empty_pages(),
+        empty_with: with.empty_pages(),
     }
 }
 
@@ -38,11 +40,11 @@ pub(crate) fn counts_of(savings: &Savings) -> Counts
     Counts {
         most_objects: counts.most_small,
         large: counts.large,
-        most_large_pages: counts.most_large_pages,
         meshes: meshes.meshes,
         refused: meshes.refused,
         copied: meshes.moved,
         rounds: counts.rounds,
+        tries: meshes.tries,
         virtual_pages: savings.with().used_pages(),
         used,
     }

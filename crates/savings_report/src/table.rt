@@ -3,10 +3,10 @@ mod figures;
 mod levels;
 mod lines;
 mod measured;
+mod moments;
 mod pages;
 mod rounding;
 mod samples;
-mod savings;
 mod words;
 
 pub use figures::Figures;

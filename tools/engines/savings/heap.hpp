@@ -29,7 +29,7 @@ constexpr std::array<SizeClass, 10> CLASSES = {{{16, 1, 256},
 constexpr uint32_t LONGEST = 2048;          // bytes of an object
 constexpr uint32_t MOST_ADDRESSES = 65535;  // virtual pages
 constexpr uint32_t MOST_SPANS = 65535;      // each has a virtual page at least
-constexpr uint32_t MOST_MEMBERS = 8;        // spans of a group
+constexpr uint32_t MOST_MEMBERS = 64;       // spans of a group, with the greatest limit
 
 // The least class that fits an object of this length, by its place in CLASSES.
 inline uint32_t class_of(uint32_t length) {
@@ -138,8 +138,11 @@ public:
     // Calls `visit` with each number in ascending order.
     template <class Visit>
     void for_each(Visit visit) const {
-        for (uint32_t i = 0; i < words.size(); i++)
-            for (uint64_t left = words[i]; left != 0; left &= left - 1) visit(i * 64 + nth_bit(left, 0));
+        for (uint32_t i = 0; i < summary.size(); i++)
+            for (uint64_t full = summary[i]; full != 0; full &= full - 1) {
+                const uint32_t word = i * 64 + nth_bit(full, 0);
+                for (uint64_t left = words[word]; left != 0; left &= left - 1) visit(word * 64 + nth_bit(left, 0));
+            }
     }
 
 private:
@@ -185,14 +188,16 @@ inline void erase_paired(std::vector<Candidate> &list) {
 }
 
 // The pairs that at most `probe` rounds of tries find between the two halves of an order, in the order of the tries.
-// The group with fewer objects is the source; on a tie it is the one from the second half.
-inline std::vector<Pair> split_search(const std::vector<Candidate> &order, uint32_t probe) {
+// The group with fewer objects is the source; on a tie it is the one from the second half. Adds the number of tries to
+// `tries`.
+inline std::vector<Pair> split_search(const std::vector<Candidate> &order, uint32_t probe, uint64_t &tries) {
     const size_t half = order.size() / 2;
     std::vector<Candidate> left(order.begin(), order.begin() + half);
     std::vector<Candidate> right(order.begin() + half, order.begin() + 2 * half);
     std::vector<Pair> pairs;
     for (uint32_t round = 0; round < probe && !left.empty(); round++) {
         const size_t found = pairs.size();
+        tries += left.size();
         size_t k = round % right.size();
         for (Candidate &l : left) {
             Candidate &r = right[k];
@@ -220,10 +225,11 @@ struct Group {
     Occupancy occupied;
     uint32_t objects = 0;
     uint32_t bytes = 0;  // of its objects
+    uint16_t first_span;  // its spans are a list, in the order in which meshes appended them
+    uint16_t last_span;
     uint8_t size_class;
-    bool exists = true;  // neither swept nor the source of a mesh
-    uint8_t members = 1;
-    uint16_t member[MOST_MEMBERS];
+    bool exists = true;   // neither swept nor the source of a mesh
+    uint8_t members = 1;  // spans
 
     const SizeClass &row() const { return CLASSES[size_class]; }
     bool is_full() const { return objects == row().slots; }
@@ -231,14 +237,16 @@ struct Group {
 
 class Heap {
 public:
-    std::array<uint32_t, CLASSES.size()> class_pages{};  // physical pages of each class
+    std::array<uint32_t, CLASSES.size()> class_pages{};  // physical pages of each class's groups that have an object
     uint32_t pages = 0;                                  // and of all of them
+    uint32_t empty_pages = 0;                            // physical pages of the groups without an object
     uint32_t addresses_used = 0;                         // virtual pages
     uint64_t meshes = 0;
     uint64_t refused = 0;  // pairs with too many members together
     uint64_t copied = 0;   // bytes of the objects that meshes moved
+    uint64_t tries = 0;    // comparisons of two groups in searches
 
-    explicit Heap(uint32_t addresses) : addresses(addresses) {}
+    Heap(uint32_t addresses, uint32_t most_members) : addresses(addresses), most_members(most_members) {}
 
     // Whether a group of the class has a free slot, or there are addresses for a new span.
     bool has_room(uint32_t size_class) const {
@@ -251,11 +259,15 @@ public:
         const uint32_t number = lowest < MOST_SPANS ? lowest : add_span(size_class);
         Group &group = groups[number];
         const uint32_t slot = group.occupied.free_slot(word % (group.row().slots - group.objects));
+        if (group.objects == 0) {
+            empty_pages -= group.row().pages;
+            hold(group);
+        }
         group.occupied.insert(slot);
         group.objects++;
         group.bytes += length;
         if (group.is_full()) open[size_class].erase(number);
-        return {group.member[0], static_cast<uint8_t>(slot)};
+        return {group.first_span, static_cast<uint8_t>(slot)};
     }
 
     void free(Place place, uint32_t length) {
@@ -265,46 +277,62 @@ public:
         group.objects--;
         group.bytes -= length;
         open[group.size_class].insert(number);
-        if (group.objects == 0) emptied.push_back(number);
+        if (group.objects > 0) return;
+        unhold(group);
+        empty_pages += group.row().pages;
+        emptied.push_back(number);
     }
 
     // Sweeps every group without an object. The order has no effect on any figure.
     void sweep() {
-        for (const uint32_t number : emptied)
-            if (groups[number].exists && groups[number].objects == 0) remove(number);
+        for (const uint32_t number : emptied) {
+            const Group &group = groups[number];
+            if (!group.exists || group.objects > 0) continue;
+            empty_pages -= group.row().pages;
+            remove(number);
+        }
         emptied.clear();
     }
 
     // Searches each class, smallest first, and meshes the pairs found.
     void mesh(uint32_t probe, Words &words) {
         for (uint32_t size_class = 0; size_class < CLASSES.size(); size_class++)
-            for (const Pair &pair : split_search(shuffled(candidates(size_class), words), probe))
+            for (const Pair &pair : split_search(shuffled(candidates(size_class), words), probe, tries))
                 mesh_whole(pair.source, pair.destination);
     }
 
 private:
-    // Makes a group of one new span and returns its number.
+    // Counts the pages of a group that gets its first object.
+    void hold(const Group &group) {
+        class_pages[group.size_class] += group.row().pages;
+        pages += group.row().pages;
+    }
+
+    // Counts no longer the pages of a group that has lost its last object.
+    void unhold(const Group &group) {
+        class_pages[group.size_class] -= group.row().pages;
+        pages -= group.row().pages;
+    }
+
+    // Makes a group of one new span, without an object, and returns its number.
     uint32_t add_span(uint32_t size_class) {
         const uint32_t number = groups.size();
         Group group;
         group.size_class = size_class;
-        group.member[0] = number;
+        group.first_span = group.last_span = number;
         groups.push_back(group);
         group_of.push_back(number);
+        next_span.push_back(number);
         open[size_class].insert(number);
         addresses_used += group.row().pages;
-        class_pages[size_class] += group.row().pages;
-        pages += group.row().pages;
+        empty_pages += group.row().pages;
         return number;
     }
 
-    // Frees a group's physical pages. Its number isn't used again.
+    // Removes a group, whose pages are counted no longer. Its number isn't used again.
     void remove(uint32_t number) {
-        Group &group = groups[number];
-        group.exists = false;
-        open[group.size_class].erase(number);
-        class_pages[group.size_class] -= group.row().pages;
-        pages -= group.row().pages;
+        groups[number].exists = false;
+        open[groups[number].size_class].erase(number);
     }
 
     // The groups of the class that are neither empty nor full, in ascending order.
@@ -318,10 +346,11 @@ private:
         return found;
     }
 
-    // Meshes two groups of a class that have no occupied slot in common, unless they have too many members.
+    // Meshes two groups of a class that have no occupied slot in common, unless they have too many members
+    // together.
     void mesh_whole(uint32_t source_number, uint32_t destination_number) {
         Group &source = groups[source_number], &destination = groups[destination_number];
-        if (source.members + destination.members > MOST_MEMBERS) {
+        if (source.members + destination.members > most_members) {
             refused++;
             return;
         }
@@ -330,17 +359,24 @@ private:
         destination.occupied.insert_all(source.occupied);
         destination.objects += source.objects;
         destination.bytes += source.bytes;
+        uint16_t span = source.first_span;
         for (uint32_t i = 0; i < source.members; i++) {
-            destination.member[destination.members++] = source.member[i];
-            group_of[source.member[i]] = destination_number;
+            group_of[span] = destination_number;
+            span = next_span[span];
         }
+        next_span[destination.last_span] = source.first_span;
+        destination.last_span = source.last_span;
+        destination.members += source.members;
         if (destination.is_full()) open[destination.size_class].erase(destination_number);
+        unhold(source);
         remove(source_number);
     }
 
     uint32_t addresses;                         // virtual pages in all
+    uint32_t most_members;                      // of a group
     std::vector<Group> groups;                  // by number
     std::vector<uint16_t> group_of;             // the group of each span
+    std::vector<uint16_t> next_span;            // the span after each span of a group, but not after the last
     std::array<GroupSet, CLASSES.size()> open;  // the groups of each class with a free slot
     std::vector<uint32_t> emptied;              // groups whose last object was freed since the last sweep
 };

@@ -1,21 +1,25 @@
 #!/usr/bin/env python3
-"""Prints the recorded history histories/savings/aliases.history.
+"""Prints a recorded history, by default histories/savings/aliases.history.
 
-    tools/engines/savings/write_trace.py
+    tools/engines/savings/write_trace.py [SEED WAVES STEPS]
 
-The output is the same every time. It is legal for `meshrun check`, and has what recorded programs seldom do: objects
-that several cells refer to, freed through any of them; objects that no cell refers to any more; objects above 2,048
-bytes; refused entries, loads and stores. The objects come in waves, and most of each wave is freed before the next.
+SEED is a number from 1 to 2^64 - 1 of another history. Each of its WAVES has STEPS entries.
+
+The output of the same words is the same every time. It is legal for `meshrun check`, and has what recorded programs
+seldom do: objects that several cells refer to, freed through any of them; objects that no cell refers to any more;
+objects above 2,048 bytes; refused entries, loads and stores. The objects come in waves, and most of each wave is freed
+before the next.
 """
+
+import sys
 
 SIZES = [16, 32, 64, 128, 256, 384, 512, 1024, 1536, 2048]
 USUAL = [512, 1024]
 LARGE = [2049, 4096, 4097, 12288, 1000000, 4294967295]
 CELLS = 200
-WAVES = 6
-STEPS = 280
+DEFAULTS = 0x9E3779B97F4A7C15, 6, 280  # seed, waves, steps
 
-random_state = 0x9E3779B97F4A7C15
+random_state = DEFAULTS[0]
 
 
 def random_below(n):
@@ -125,12 +129,14 @@ class Trace:
 
 
 def main():
+    global random_state
+    random_state, waves, steps = map(int, sys.argv[1:]) if sys.argv[1:] else DEFAULTS
     print("history 1")
     trace = Trace()
-    for _ in range(WAVES):
-        for _ in range(STEPS // 2):
+    for _ in range(waves):
+        for _ in range(steps // 2):
             trace.step(news=80)
-        for _ in range(STEPS // 2):
+        for _ in range(steps // 2):
             trace.step(news=10)
 
 

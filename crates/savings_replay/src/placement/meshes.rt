@@ -2,12 +2,14 @@
 ghost use Rattle.std.specs.Prelude.{◌≡◌, Err, IfErr, IfOk, sum_by};
 ghost use Rattle.model_heap.specs.Mesh.{may_begin, mesh_of_class, mesh_whole};
 ghost use Rattle.model_heap.specs.Table.{len_in};
+ghost use Rattle.savings_replay.specs.Mesher.{IsMeshedWithin, IsRefusedWithin};
 ghost use Rattle.savings_replay.specs.Meshes.{MayMesh};
 ghost use Rattle.mesh_spans.specs.Index.{IsGroup};
 ghost use Rattle.savings_replay.specs.Placement.{IsMeshed, IsSwept, IsSweptAt, table_of};
 
 use super::Placement;
 use crate::meshed::Meshed;
+use crate::placement::pages::held_pages_of;
 use mesh_class::Class;
 use mesh_spans::{Group, Slot};
 use model_words::Refusal;
@@ -38,10 +40,8 @@ impl Placement {
         if !group.is_empty() {
             return;
         }
-        let class = group.class();
-        let pages = class.pages();
+        let pages = group.class().pages();
         self.spans.retire(n);
-        self.class_pages.lower(class, pages);
         self.taken_pages -= pages;
     }
 
@@ -56,28 +56,51 @@ impl Placement {
             (mesh_whole mesh_of_class (table_of self.old) source destination ≡ Err refusal) × (self.new ≡ self.old)) }
     {
         self.spans.sound();
-        let (class, meshed) = self.may_mesh(source, destination)?;
+        let (class, held, meshed) = self.may_mesh(source, destination)?;
         self.spans.merge(destination, source);
-        self.class_pages.lower(class, meshed.pages);
+        self.held_pages.lower(class, held);
         self.taken_pages -= meshed.pages;
         Ok(meshed)
     }
 
-    /// Returns the class of two groups and the result that a mesh of them would have, if they may be meshed. Otherwise
-    /// the error is the one that `mesh` returns.
-    fn may_mesh(&self, source: u32, destination: u32) -> Result<(Class, Meshed), Refusal>
-        ensures may { IfOk result (λ done. MayMesh self.now.index source destination done.0 done.1.pages done.1.bytes) }
+    /// Meshes the group `source` into the group `destination`, if the two have at most `most` members together.
+    /// Otherwise the error is MEMBERS. The other errors are those of `mesh`.
+    pub(crate) fn mesh_within(
+        &mut self,
+        most: u32,
+        source: u32,
+        destination: u32,
+    ) -> Result<Meshed, Refusal>
+        ensures meshed { IfOk result (IsMeshedWithin self.old self.new most source destination) }
+        ensures refused { IfErr result (IsRefusedWithin self.old self.new most source destination) }
+    {
+        if self.members_of(source) + self.members_of(destination) > most {
+            return Err(Refusal::Members);
+        }
+        self.mesh(source, destination)
+    }
+
+    /// Returns the class of two groups, the number of pages by which those of groups with an object would become fewer,
+    /// and the result that a mesh of the groups would have, if they may be meshed. Otherwise the error is the one that
+    /// `mesh` returns.
+    fn may_mesh(&self, source: u32, destination: u32) -> Result<(Class, u32, Meshed), Refusal>
+        ensures may { IfOk result
+            (λ done. MayMesh self.now.index source destination done.0 done.2.pages done.1 done.2.bytes) }
         ensures refused { IfErr result
             (λ refusal. may_begin mesh_of_class (table_of self.now) source destination ≡ Err refusal) }
     {
         self.spans.sound();
         let from = self.spans.may_merge(source, destination, false)?;
         let class = from.class();
+        let held = match self.spans.group(destination) {
+            Some(to) => held_pages_of(from).min(held_pages_of(to)),
+            None => 0,
+        };
         let meshed = Meshed {
             pages: class.pages(),
             bytes: bytes_of(from),
         };
-        Ok((class, meshed))
+        Ok((class, held, meshed))
     }
 }
 

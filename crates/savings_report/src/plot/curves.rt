@@ -1,14 +1,16 @@
 //! `Curves`, which gathers one sample after each call.
-ghost use Rattle.std.specs.Prelude.{◌≡◌, ◌<◌, ◌≤◌, ◌^◌, ◌↔◌, ◌∷◌, [], ◌++◌, List, IfOk, IsTrue, codes};
+ghost use Rattle.std.specs.Prelude.{◌≡◌, ◌<◌, ◌≤◌, ◌^◌, ◌↔◌, ◌∷◌, [], ◌++◌, List, IfOk, IsTrue};
 ghost use Rattle.savings_report.specs.declared.table.samples.Sample.{Sample};
 ghost use Rattle.savings_report.specs.declared.table.samples.Window.{Window};
-ghost use Rattle.savings_report.specs.FigureSamples.{AreFew};
-ghost use Rattle.draw_svg.specs.Begins.{Begins};
+ghost use Rattle.savings_report.specs.Courses.{series_in, series_of};
+ghost use Rattle.savings_report.specs.FigureSamples.{IsBounded};
 ghost use Rattle.savings_report.specs.Intervals.{IsOf};
+ghost use Rattle.savings_report.specs.PlotCurves.{IsPlot};
 
+use crate::plot::courses::Course;
 use crate::plot::intervals::Intervals;
-use crate::plot::plotted::Plotted;
-use crate::plot::readings::Reading;
+use crate::plot::plotted::draw_plot;
+use crate::plot::readings::{Mark, Reading};
 use crate::table::{Sample, Window};
 use draw_svg::Text;
 use std::alloc::{AllocError, Global};
@@ -24,10 +26,12 @@ pub struct Curves {
     calls: u32,
     // The least and greatest values of the measured samples, by interval.
     intervals: Intervals,
+    // The first measured call after which meshing saves the most pages.
+    most_saved: Option<Mark>,
 }
 
 impl Model for Curves {
-    ghost use Rattle.std.specs.Prelude.{◌≤◌, take};
+    ghost use Rattle.std.specs.Prelude.{◌+◌, ◌-◌, ◌<◌, ◌≤◌, max, take};
     ghost use Rattle.std.specs.Int.{div_ceil};
     ghost use Rattle.savings_report.specs.Intervals.{Gathered, IsSound};
 
@@ -41,7 +45,9 @@ impl Model for Curves {
       intervals = take (div_ceil c.intervals.count c.intervals.width) c.intervals.list.items;
     } };
 
-    ghost invariant = { λ c. IsSound c.intervals × (c.intervals.count ≤ c.calls) };
+    ghost invariant = { λ c. IsSound c.intervals
+        × (c.window.from - 1 + c.intervals.count ≤ max c.calls (c.window.from - 1))
+        × (c.calls < 4294967296) };
 }
 
 impl Curves {
@@ -54,6 +60,7 @@ impl Curves {
             window,
             calls: 0,
             intervals: Intervals::new(alloc)?,
+            most_saved: None,
         })
     }
 
@@ -68,35 +75,42 @@ impl Curves {
     /// nothing.
     pub fn look(&mut self, sample: &Sample)
         requires room { self.old.calls < 4294967295 }
-        requires without { AreFew sample.now.without }
-        requires with { AreFew sample.now.with }
-        requires perfect { AreFew sample.now.perfect }
-        requires bytes { sample.now.live_bytes < 2 ^ 40 }
+        requires bounded { IsBounded sample.now }
         ensures { (window : Window) (samples : List Sample) → IsOf self.old window samples
             → IsOf self.new window (samples ++ sample.now ∷ []) }
     {
         self.calls += 1;
         if self.window.from <= self.calls && self.calls <= self.window.to {
-            self.intervals.add(Reading::of(sample));
+            let reading = Reading::of(sample);
+            let call = self.calls;
+            self.most_saved = Some(Mark::more_saved(self.most_saved, Mark { call, reading }));
+            self.intervals.add(reading);
         }
     }
 
     /// Returns the plot as an SVG file. Returns an error if an allocation fails.
     pub fn picture(&self, alloc: Global) -> Result<Vec<u8>, AllocError>
-        ensures { IfOk result (λ file. Begins (codes "<svg") file.items) }
+        ensures { (window : Window) (samples : List Sample) → IsOf self.now window samples
+            → IfOk result (λ file. IsPlot (series_of window samples) file.items) }
     {
         let mut text = Text::new(alloc);
-        self.plotted().draw(&mut text);
+        draw_plot(&mut text, &self.course());
         text.finish()
     }
 
-    /// Returns the data of the plot.
-    fn plotted(&self) -> Plotted<'_> {
-        Plotted {
+    /// Returns the intervals of the measured calls.
+    pub fn course(&self) -> Course<'_>
+        ensures before { result.before < 4294967295 }
+        ensures value { (window : Window) (samples : List Sample) → IsOf self.now window samples
+            → series_in result ≡ series_of window samples }
+    {
+        let before = self.window.from.saturating_sub(1);
+        Course {
             intervals: self.intervals.used(),
             width: self.intervals.width,
-            before: self.window.from.saturating_sub(1),
-            count: self.intervals.count,
+            before,
+            last: before + self.intervals.count,
+            most_saved: self.most_saved,
         }
     }
 }

@@ -17,6 +17,17 @@ const NOTHING: Span = Span {
     greatest: 0,
 };
 
+/// The reading of an interval without calls.
+const NO_READING: Reading = Reading {
+    without: 0,
+    with: 0,
+    perfect: 0,
+    live: 0,
+    large: 0,
+    empty_without: 0,
+    empty_with: 0,
+};
+
 /// Intervals of equally many calls each, except that the last may have fewer.
 #[derive(Drop)]
 pub struct Intervals {
@@ -36,6 +47,7 @@ impl Intervals {
         ensures count { IfOk result (λ intervals. intervals.count ≡ 0) }
     {
         let nothing = Interval {
+            last: NO_READING,
             without: NOTHING,
             with: NOTHING,
             perfect: NOTHING,

@@ -1,7 +1,7 @@
 //! The legend: a piece of each curve, with the name of the curve.
-use crate::plot::lines::{CURVES, Curve};
-use crate::plot::plotted::{PLOT, write};
+use crate::plot::lines::{CURVES, Curve, PLOT};
 use crate::plot::style::NOTE;
+use crate::plot::words::write;
 use draw_svg::{Anchor, Look, Shapes, Way};
 
 /// The distance between the starts of two names.
@@ -11,7 +11,7 @@ const COLUMN: u32 = 1_900;
 const PIECE: u32 = 420;
 
 /// The baseline of the names.
-const LINE: u32 = 720;
+const LINE: u32 = 850;
 
 /// Draws the legend.
 pub fn draw_legend(shapes: &mut Shapes) {

@@ -1,8 +1,33 @@
-//! The lines of the curves.
-use crate::plot::plotted::PLOT;
-use crate::plot::scale::Axis;
+//! The curves, and the points that they are drawn through.
+ghost use Rattle.std.specs.Prelude.{◌≡◌, ◌+◌, ◌<◌, ◌↔◌, IfOk, IsTrue, List, min, max};
+ghost use Rattle.draw_svg.specs.Shapes.{plain, style_of};
+ghost use Rattle.savings_report.specs.Courses.{series_in};
+ghost use Rattle.savings_report.specs.PlotCurves.{across, calls_end, curve_name, curve_points, curve_span, first_height, height, is_rising, last_height, most_in, most_of, way_after};
+ghost use Rattle.savings_report.specs.declared.plot.lines.Curve.{Curve};
+
+use crate::plot::courses::Course;
+use crate::plot::scale::share;
 use crate::plot::spans::{Interval, Span};
-use draw_svg::{Look, Shapes, Way};
+use draw_svg::{Area, Look, Point, Way};
+use std::alloc::{AllocError, Global};
+
+/// The left side, the width, the lower side and the height of the area between the axes. All lengths are in tenths of a
+/// pixel.
+const LEFT: u32 = 1_250;
+
+const WIDTH: u32 = 6_600;
+
+const BOTTOM: u32 = 4_350;
+
+const HEIGHT: u32 = 3_200;
+
+/// The area between the axes.
+pub const PLOT: Area = Area {
+    x: LEFT,
+    y: BOTTOM - HEIGHT,
+    w: WIDTH,
+    h: HEIGHT,
+};
 
 /// A curve.
 #[derive(Clone, Copy)]
@@ -32,7 +57,9 @@ impl Curve {
     }
 
     /// Returns the style rule of the curve.
-    pub fn look(self) -> Look {
+    pub fn look(self) -> Look
+        ensures { style_of result ≡ plain (curve_name self) }
+    {
         match self {
             Curve::Without => Look::of("without"),
             Curve::With => Look::of("with"),
@@ -42,7 +69,9 @@ impl Curve {
     }
 
     /// Returns the least and the greatest value of the curve in an interval.
-    fn span(self, interval: &Interval) -> Span {
+    pub fn span(self, interval: &Interval) -> Span
+        ensures { result ≡ curve_span self interval.now }
+    {
         match self {
             Curve::Without => interval.without,
             Curve::With => interval.with,
@@ -52,81 +81,134 @@ impl Curve {
     }
 }
 
-/// The intervals that are drawn, and the axes.
-#[derive(Clone, Copy)]
-pub struct Drawn<'a> {
-    pub intervals: &'a [Interval],
-    /// The number of calls in a full interval.
-    pub width: u32,
-    pub calls: Axis,
-    pub pages: Axis,
-}
-
 /// Returns the greatest number of pages in any curve.
-pub fn most_pages(intervals: &[Interval]) -> u32 {
+pub fn most_pages(intervals: &[Interval]) -> u32
+    ensures { result ≡ most_in intervals.now }
+{
     let mut most = 0u32;
     for interval in intervals {
-        let heaps = interval.without.greatest.max(interval.with.greatest);
-        let bounds = interval.perfect.greatest.max(interval.live.greatest);
-        most = most.max(heaps).max(bounds);
+        most = most.max(most_of(interval));
     }
     most
 }
 
-impl Drawn<'_> {
-    /// Draws a curve.
-    pub fn draw(&self, shapes: &mut Shapes, curve: Curve) {
-        let mut before: Option<Span> = None;
-        let mut begin = self.calls.first;
-        for interval in self.intervals {
-            let span = curve.span(interval);
-            let way = if before.is_none() {
-                Way::Move
-            } else {
-                Way::Line
-            };
-            let points = self.points(begin, span, is_rising(before, span));
-            shapes.point(way, points[0].0, points[0].1);
-            shapes.point(Way::Line, points[1].0, points[1].1);
-            before = Some(span);
-            begin = begin.saturating_add(self.width);
-        }
-        shapes.path(curve.look());
-    }
+/// Returns the greatest number of pages in any curve of an interval.
+#[tactic(auto, unfolding(crate::specs::PlotCurves::most_of))]
+fn most_of(interval: &Interval) -> u32
+    ensures { result ≡ most_of interval.now }
+{
+    let heaps = interval.without.greatest.max(interval.with.greatest);
+    let bounds = interval.perfect.greatest.max(interval.live.greatest);
+    heaps.max(bounds)
+}
 
-    /// Returns the two points of an interval that begins after `begin` calls: one at its first call, and one at its
-    /// last call. The points show the least and the greatest value. Which of these values came first isn't recorded. If
-    /// the curve rises, the least value is drawn first.
-    fn points(&self, begin: u32, span: Span, rising: bool) -> [(u32, u32); 2] {
-        let end = begin.saturating_add(self.width).min(self.calls.last);
-        let first = self.x(begin.saturating_add(1).min(end));
-        let last = self.x(end);
-        let least = self.y(span.least);
-        let greatest = self.y(span.greatest);
-        if rising {
-            [(first, least), (last, greatest)]
-        } else {
-            [(first, greatest), (last, least)]
-        }
-    }
+/// Returns the number of the call at the right end of the plot.
+pub fn calls_end(course: &Course) -> u32
+    requires { course.now.before < 4294967295 }
+    ensures { result ≡ calls_end (series_in course.now) }
+{
+    course.last.max(course.before + 1)
+}
 
-    /// Returns the horizontal position of a call.
-    fn x(&self, call: u32) -> u32 {
-        self.calls.place(call, PLOT.w).saturating_add(PLOT.x)
+/// Returns the points of a curve: for each interval one at its first call, and one at its last call. They show the
+/// least and the greatest value. Which of these values came first isn't recorded: if the curve rises, the least value
+/// is drawn first. The only error is an allocation failure.
+pub fn curve_points(
+    alloc: Global,
+    course: &Course,
+    top: u32,
+    curve: Curve,
+) -> Result<Vec<Point>, AllocError>
+    requires before { course.now.before < 4294967295 }
+    requires top { 0 < top }
+    ensures { IfOk result (λ points. points.items ≡ curve_points (series_in course.now) top curve) }
+{
+    let mut points = Vec::new(alloc);
+    let mut span_before: Option<Span> = None;
+    let mut done = course.before;
+    for interval in course.intervals {
+        let span = curve.span(interval);
+        let rising = is_rising(span_before, span);
+        let last = course.end_after(done);
+        let first = first_call(done, last);
+        points.push(Point {
+            way: way_after(span_before),
+            x: across(course, first),
+            y: height(top, first_height(rising, span)),
+        })?;
+        points.push(Point {
+            way: Way::Line,
+            x: across(course, last),
+            y: height(top, last_height(rising, span)),
+        })?;
+        span_before = Some(span);
+        done = last;
     }
+    Ok(points)
+}
 
-    /// Returns the vertical position of a number of pages.
-    fn y(&self, pages: u32) -> u32 {
-        let height = self.pages.place_of_pages(pages, PLOT.h);
-        PLOT.bottom().saturating_sub(height)
+/// Returns the number of the first call of an interval that begins after call number `done` and ends with call number
+/// `last`.
+fn first_call(done: u32, last: u32) -> u32
+    ensures { result ≡ min (done + 1) last }
+{
+    done.saturating_add(1).min(last)
+}
+
+/// Returns how the path reaches the first point of an interval, by the span of the interval before.
+fn way_after(before: Option<Span>) -> Way
+    ensures { result ≡ way_after before }
+{
+    match before {
+        None => Way::Move,
+        Some(_) => Way::Line,
     }
 }
 
 /// Whether a curve doesn't fall from the interval before to this interval, by the middles of its spans. True if there
 /// is no interval before.
-fn is_rising(before: Option<Span>, span: Span) -> bool {
+#[tactic(auto, unfolding(crate::specs::PlotCurves::is_rising))]
+fn is_rising(before: Option<Span>, span: Span) -> bool
+    ensures { result ≡ is_rising before span }
+{
     match before {
-        Some(before) => before.middle() <= span.middle(),
         None => true,
+        Some(before) => before.middle() <= span.middle(),
     }
+}
+
+/// Returns the number of pages at the first call of an interval.
+#[tactic(auto, unfolding(crate::specs::PlotCurves::first_height))]
+fn first_height(rising: bool, span: Span) -> u32
+    ensures { result ≡ first_height rising span }
+{
+    if rising { span.least } else { span.greatest }
+}
+
+/// Returns the number of pages at the last call of an interval.
+#[tactic(auto, unfolding(crate::specs::PlotCurves::last_height))]
+fn last_height(rising: bool, span: Span) -> u32
+    ensures { result ≡ last_height rising span }
+{
+    if rising { span.greatest } else { span.least }
+}
+
+/// Returns the horizontal position of a call.
+#[tactic(auto, unfolding(crate::specs::PlotCurves::across))]
+pub fn across(course: &Course, call: u32) -> u32
+    requires { course.now.before < 4294967295 }
+    ensures { result ≡ across (series_in course.now) call }
+{
+    let calls = calls_end(course).saturating_sub(course.before);
+    let part = u64::from(call.saturating_sub(course.before));
+    LEFT + share(6_600 * part, calls, WIDTH)
+}
+
+/// Returns the vertical position of a number of pages, if the axis ends at `top` pages.
+#[tactic(auto, unfolding(crate::specs::PlotCurves::height))]
+pub fn height(top: u32, pages: u32) -> u32
+    requires { 0 < top }
+    ensures { result ≡ height top pages }
+{
+    BOTTOM - share(3_200 * u64::from(pages), top, HEIGHT)
 }

@@ -1,4 +1,4 @@
-//! The least and the greatest value of each curve in an interval of calls.
+//! What is kept of an interval of calls: its last reading, and the least and the greatest value of each curve.
 ghost use Rattle.std.specs.Prelude.{◌≡◌, ◌+◌, ◌<◌, [], ◌∷◌, ◌++◌, List, ℕ, length, max, min};
 ghost use Rattle.savings_report.specs.Intervals.{interval_of, span_of};
 ghost use Rattle.savings_report.specs.declared.plot.readings.Reading.{Reading};
@@ -12,9 +12,10 @@ pub struct Span {
     pub greatest: u32,
 }
 
-/// The spans of the four curves.
+/// The last reading of an interval, and the spans of the four curves.
 #[derive(Clone, Copy, Debug)]
 pub struct Interval {
+    pub last: Reading,
     pub without: Span,
     pub with: Span,
     pub perfect: Span,
@@ -57,6 +58,7 @@ impl Interval {
         ensures { result ≡ interval_of (reading ∷ []) }
     {
         Interval {
+            last: reading,
             without: Span::of(reading.without),
             with: Span::of(reading.with),
             perfect: Span::of(reading.perfect),
@@ -64,13 +66,15 @@ impl Interval {
         }
     }
 
-    /// Returns the interval that has the calls of both intervals. Both intervals must have at least one call.
+    /// Returns the interval that has the calls of this interval, and then those of `next`. Both intervals must have at
+    /// least one call.
     pub fn joined(self, next: Interval) -> Interval
         ensures { (these those : List Reading) → 0 < length these → 0 < length those → self ≡ interval_of these
             → next ≡ interval_of those
             → result ≡ interval_of (these ++ those) }
     {
         Interval {
+            last: next.last,
             without: self.without.joined(next.without),
             with: self.with.joined(next.with),
             perfect: self.perfect.joined(next.perfect),

@@ -9,9 +9,9 @@ pub const NOTE: &str = "fn";
 /// The font rule of the marks of axes.
 pub const MARK: &str = "fa";
 
-/// The rules of fonts, of backgrounds, text colours and the lines of the axes, and of the lines of the curves. Most
-/// colour-blind readers can distinguish the colours. If curves overlap, all stay visible: the first curve is wider than
-/// the curves drawn on top of it, and two curves are dashed.
+/// The rules of fonts, of backgrounds, text colours and the lines of the axes, of the lines of the curves, and of the
+/// mark of what is saved. Most colour-blind readers can distinguish the colours. If curves overlap, all stay visible:
+/// the first curve is wider than the curves drawn on top of it, and two curves are dashed.
 pub const RULES: &str = "\
 .ft{font-size:170px;font-weight:bold}.fn{font-size:110px}.fa{font-size:110px}
 .bg{fill:#f3f4f6}.card{fill:#fff;stroke:#c8cdd4;stroke-width:10}
@@ -22,6 +22,7 @@ pub const RULES: &str = "\
 .with{stroke:#0072b2;stroke-width:14}
 .perfect{stroke:#009e73;stroke-width:14;stroke-dasharray:56 46}
 .live{stroke:#cc79a7;stroke-width:16;stroke-dasharray:1 32}
+.guide{fill:none;stroke:#7b848d;stroke-width:8;stroke-dasharray:20 30}.saved{fill:none;stroke:#1d2430;stroke-width:16}
 ";
 
 /// The rules of backgrounds, text colours and lines for a dark background.
@@ -31,4 +32,5 @@ pub const DARK_RULES: &str = "\
 .grid{stroke:#333d48}.tick{stroke:#8792a0}
 .without{stroke:#e69f00}.with{stroke:#56b4e9}
 .perfect{stroke:#2fbf94}.live{stroke:#e3a5c7}
+.guide{stroke:#8792a0}.saved{stroke:#e8ecf1}
 ";

@@ -1,12 +1,12 @@
 //! `Figures`: the figures of a run, gathered from one sample after each call.
-ghost use Rattle.std.specs.Prelude.{◌≡◌, ◌<◌, ◌≤◌, ◌^◌, ◌↔◌, ◌∷◌, [], ◌++◌, List, IfOk, IsTrue};
+ghost use Rattle.std.specs.Prelude.{◌≡◌, ◌<◌, ◌≤◌, ◌↔◌, ◌∷◌, [], ◌++◌, List, IfOk, IsTrue};
 ghost use Rattle.savings_report.specs.declared.table.samples.Sample.{Sample};
 ghost use Rattle.savings_report.specs.declared.table.samples.Window.{Window};
-ghost use Rattle.savings_report.specs.FigureSamples.{AreFew};
+ghost use Rattle.savings_report.specs.FigureSamples.{IsBounded};
 ghost use Rattle.savings_report.specs.Figures.{IsOf};
 ghost use Rattle.savings_report.specs.FigureTexts.{figures_text};
 
-use crate::table::lines::{add_calls, add_classes, add_meshes, add_most_saved, add_rows};
+use crate::table::lines::{add_calls, add_classes, add_empty, add_meshes, add_most, add_rows};
 use crate::table::measured::Measured;
 use crate::table::samples::{Counts, Sample, Window};
 use std::alloc::{AllocError, Global};
@@ -55,10 +55,7 @@ impl Figures {
     /// Counts the next call, and adds its sample if the call is in the window.
     pub fn look(&mut self, sample: &Sample)
         requires room { self.old.calls < 4294967295 }
-        requires without { AreFew sample.now.without }
-        requires with { AreFew sample.now.with }
-        requires perfect { AreFew sample.now.perfect }
-        requires bytes { sample.now.live_bytes < 2 ^ 40 }
+        requires bounded { IsBounded sample.now }
         ensures { (window : Window) (samples : List Sample) → IsOf self.old window samples
             → IsOf self.new window (samples ++ sample.now ∷ []) }
     {
@@ -77,7 +74,12 @@ impl Figures {
         let mut text = Vec::new(alloc);
         add_calls(&mut text, self.calls, counts)?;
         add_rows(&mut text, &self.measured)?;
-        add_most_saved(&mut text, &self.measured.most)?;
+        add_most(
+            &mut text,
+            &self.measured.most_saved,
+            &self.measured.most_live,
+        )?;
+        add_empty(&mut text, &self.measured)?;
         add_meshes(&mut text, counts)?;
         add_classes(&mut text, &self.measured, &counts.used)?;
         Ok(text)

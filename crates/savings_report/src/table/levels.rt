@@ -1,15 +1,17 @@
-//! The peak and the sum of a sequence of numbers.
+//! The peaks and the sums of sequences of numbers.
 ghost use Rattle.std.specs.Prelude.{◌≡◌, ℕ, ◌+◌, ◌<◌, ◌≤◌, ◌^◌, ◌∷◌, [], ◌++◌, List, slice_index, sum};
-ghost use Rattle.savings_report.specs.FigureSamples.{AreFew};
-ghost use Rattle.savings_report.specs.Figures.{IsColumn, IsColumnIn, IsLevel};
+ghost use Rattle.savings_report.specs.declared.table.samples.Sample.{Sample};
+ghost use Rattle.savings_report.specs.FigureSamples.{AreFew, IsBounded, total};
+ghost use Rattle.savings_report.specs.Figures.{AreLevels, AreLevelsIn, IsColumn, IsColumnIn, IsLevel, IsLevelIn};
 
-use crate::table::samples::CLASSES;
+use crate::table::rounding::whole_pages;
+use crate::table::samples::{CLASSES, Sample};
 
 /// The peak and the sum of a sequence of numbers.
 #[derive(Clone, Copy, Debug)]
 pub struct Level {
-    pub peak: u32,
-    pub sum: u64,
+    pub peak: u128,
+    pub sum: u128,
 }
 
 /// The peak and the sum of the total pages over some samples, and for each class the sum of the class's pages.
@@ -19,23 +21,42 @@ pub struct Column {
     pub sums: [u64; CLASSES],
 }
 
+/// The levels of the numbers of some samples that aren't divided into classes.
+#[derive(Clone, Copy, Debug)]
+pub struct Levels {
+    /// Live bytes of each sample, rounded up to whole pages.
+    pub live: Level,
+    /// Pages of large objects.
+    pub large: Level,
+    /// Pages of small and large objects together, in the heap that doesn't mesh. Their peak isn't the sum of two
+    /// peaks, which can be peaks of different samples.
+    pub all_without: Level,
+    /// The same in the heap that meshes.
+    pub all_with: Level,
+    /// Pages of empty groups in the heap that doesn't mesh.
+    pub empty_without: Level,
+    /// The same in the heap that meshes.
+    pub empty_with: Level,
+}
+
 impl Level {
     /// Returns the peak and the sum of an empty sequence.
     pub fn none() -> Level
         ensures level { IsLevel result [] }
-        ensures sum { result.sum ≡ 0 }
+        ensures bounds { (most : ℕ) → IsLevelIn result most 0 }
     {
         Level { peak: 0, sum: 0 }
     }
 
     /// Adds a number to the sequence.
-    pub fn add(&mut self, number: u32)
-        requires { self.old.sum < 2 ^ 63 }
+    pub fn add(&mut self, number: u128)
+        requires { self.old.sum + number < 2 ^ 128 }
         ensures level { (ns : List ℕ) → IsLevel self.old ns → IsLevel self.new (ns ++ number ∷ []) }
-        ensures sum { self.new.sum ≡ self.old.sum + number }
+        ensures bounds { (most count : ℕ) → number ≤ most → IsLevelIn self.old most count
+            → IsLevelIn self.new most (count + 1) }
     {
         self.peak = self.peak.max(number);
-        self.sum += u64::from(number);
+        self.sum += number;
     }
 }
 
@@ -62,9 +83,46 @@ impl Column {
         ensures bounds { (count : ℕ) → IsColumnIn self.old count → IsColumnIn self.new (count + 1) }
     {
         let total = total_pages(pages);
-        self.total.add(total);
+        self.total.add(u128::from(total));
         add_each(&mut self.sums, pages);
         total
+    }
+}
+
+impl Levels {
+    /// Returns the levels of an empty sequence of samples.
+    pub fn none() -> Levels
+        ensures levels { AreLevels result [] }
+        ensures bounds { AreLevelsIn result 0 }
+    {
+        Levels {
+            live: Level::none(),
+            large: Level::none(),
+            all_without: Level::none(),
+            all_with: Level::none(),
+            empty_without: Level::none(),
+            empty_with: Level::none(),
+        }
+    }
+
+    /// Adds the numbers of one more sample, whose total pages are `without` and `with`.
+    pub fn add(&mut self, without: u32, with: u32, sample: &Sample)
+        requires bounds { AreLevelsIn self.old 4294967295 }
+        requires bounded { IsBounded sample.now }
+        requires without { without ≡ total sample.now.without }
+        requires with { with ≡ total sample.now.with }
+        requires few { (without ≤ 1310720) × (with ≤ 1310720) }
+        ensures levels { (samples : List Sample) → AreLevels self.old samples
+            → AreLevels self.new (samples ++ sample.now ∷ []) }
+        ensures bounds { (count : ℕ) → AreLevelsIn self.old count → AreLevelsIn self.new (count + 1) }
+    {
+        self.live.add(u128::from(whole_pages(sample.live_bytes)));
+        self.large.add(sample.large_pages);
+        self.all_without
+            .add(u128::from(without) + sample.large_pages);
+        self.all_with.add(u128::from(with) + sample.large_pages);
+        self.empty_without.add(u128::from(sample.empty_without));
+        self.empty_with.add(u128::from(sample.empty_with));
     }
 }
 

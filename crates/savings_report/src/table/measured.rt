@@ -1,18 +1,14 @@
 //! The data gathered from the measured calls.
-ghost use Rattle.std.specs.Prelude.{◌≡◌, ℕ, ◌+◌, ◌<◌, ◌≤◌, ◌^◌, ◌∷◌, [], ◌++◌, List, length, map};
-ghost use Rattle.std.specs.Int.{div_ceil};
+ghost use Rattle.std.specs.Prelude.{◌≡◌, ℕ, ◌+◌, ◌<◌, ◌≤◌, ◌∷◌, [], ◌++◌, List, length};
 ghost use Rattle.savings_report.specs.declared.table.samples.Sample.{Sample};
-ghost use Rattle.savings_report.specs.FigureSamples.{AreFew, last, live_pages, mean, of_class, pages_by, peak, total};
-ghost use Rattle.savings_report.specs.Figures.{IsInBounds, IsMeasured};
+ghost use Rattle.savings_report.specs.FigureSamples.{IsBounded, empty_by, last, mean, of_class, pages_by, peak, row_by};
+ghost use Rattle.savings_report.specs.Figures.{IsInBounds, IsMeasured, IsSmall};
 
-use crate::table::levels::{Column, Level, total_pages};
-use crate::table::pages::Pages;
+use crate::table::levels::{Column, Levels, total_pages};
+use crate::table::moments::{Moment, more_live, more_saved};
+use crate::table::pages::{Both, Pages, Row};
 use crate::table::rounding;
 use crate::table::samples::{CLASSES, Sample};
-use crate::table::savings::{Saving, better};
-
-/// The number of bytes in a page.
-const PAGE: u64 = 4096;
 
 /// The data gathered from consecutive calls.
 #[derive(Clone, Copy, Debug)]
@@ -24,9 +20,11 @@ pub struct Measured {
     pub without: Column,
     pub with: Column,
     pub perfect: Column,
-    /// The peak and the sum of the samples' live bytes, each rounded up to whole pages.
-    pub live: Level,
-    pub most: Option<Saving>,
+    pub levels: Levels,
+    /// The first call after which meshing saves the most pages.
+    pub most_saved: Option<Moment>,
+    /// The first call after which the live small objects have the most bytes.
+    pub most_live: Option<Moment>,
 }
 
 impl Measured {
@@ -43,12 +41,16 @@ impl Measured {
                 with: [0; CLASSES],
                 perfect: [0; CLASSES],
                 live_bytes: 0,
+                large_pages: 0,
+                empty_without: 0,
+                empty_with: 0,
             },
             without: Column::none(),
             with: Column::none(),
             perfect: Column::none(),
-            live: Level::none(),
-            most: None,
+            levels: Levels::none(),
+            most_saved: None,
+            most_live: None,
         }
     }
 
@@ -56,10 +58,7 @@ impl Measured {
     pub fn add(&mut self, call: u32, sample: &Sample)
         requires room { self.old.count < 4294967295 }
         requires bounds { IsInBounds self.old }
-        requires without { AreFew sample.now.without }
-        requires with { AreFew sample.now.with }
-        requires perfect { AreFew sample.now.perfect }
-        requires bytes { sample.now.live_bytes < 2 ^ 40 }
+        requires bounded { IsBounded sample.now }
         ensures measured { (first : ℕ) (samples : List Sample) → IsMeasured self.old first samples
             → call ≡ first + length samples
             → IsMeasured self.new first (samples ++ sample.now ∷ []) }
@@ -70,74 +69,120 @@ impl Measured {
         self.end = *sample;
         let without = self.without.add(&sample.without);
         let with = self.with.add(&sample.with);
-        self.perfect.add(&sample.perfect);
-        self.live.add(whole_pages(sample.live_bytes));
-        self.most = better(
-            self.most,
-            Saving {
-                call,
+        let perfect = self.perfect.add(&sample.perfect);
+        self.levels.add(without, with, sample);
+        let moment = Moment {
+            call,
+            without,
+            with,
+            perfect,
+            live_bytes: sample.live_bytes,
+            large_pages: sample.large_pages,
+        };
+        self.most_saved = more_saved(self.most_saved, moment);
+        self.most_live = more_live(self.most_live, moment);
+    }
+
+    /// Returns the row of the peaks.
+    pub fn peaks(&self) -> Row
+        requires { IsInBounds self.now }
+        ensures value { (first : ℕ) (samples : List Sample) → IsMeasured self.now first samples
+            → result ≡ row_by peak samples }
+        ensures small { IsSmall result }
+    {
+        Row {
+            small: Pages {
+                without: self.without.total.peak,
+                with: self.with.total.peak,
+                perfect: self.perfect.total.peak,
+            },
+            live: self.levels.live.peak,
+            large: self.levels.large.peak,
+            all: Both {
+                without: self.levels.all_without.peak,
+                with: self.levels.all_with.peak,
+            },
+        }
+    }
+
+    /// Returns the row of the means.
+    pub fn means(&self) -> Row
+        requires { IsInBounds self.now }
+        ensures value { (first : ℕ) (samples : List Sample) → IsMeasured self.now first samples
+            → result ≡ row_by mean samples }
+        ensures small { IsSmall result }
+    {
+        Row {
+            small: Pages {
+                without: rounding::mean(self.without.total.sum, self.count),
+                with: rounding::mean(self.with.total.sum, self.count),
+                perfect: rounding::mean(self.perfect.total.sum, self.count),
+            },
+            live: rounding::mean(self.levels.live.sum, self.count),
+            large: rounding::mean(self.levels.large.sum, self.count),
+            all: Both {
+                without: rounding::mean(self.levels.all_without.sum, self.count),
+                with: rounding::mean(self.levels.all_with.sum, self.count),
+            },
+        }
+    }
+
+    /// Returns the row of the numbers after the last call.
+    pub fn ends(&self) -> Row
+        requires { IsInBounds self.now }
+        ensures value { (first : ℕ) (samples : List Sample) → IsMeasured self.now first samples
+            → result ≡ row_by last samples }
+        ensures small { IsSmall result }
+    {
+        let end = &self.end;
+        let without = u128::from(total_pages(&end.without));
+        let with = u128::from(total_pages(&end.with));
+        Row {
+            small: Pages {
                 without,
                 with,
+                perfect: u128::from(total_pages(&end.perfect)),
             },
-        );
-    }
-
-    /// Returns the peaks of the total pages, for both heaps and for perfect packing.
-    pub fn peaks(&self) -> Pages
-        ensures value { (first : ℕ) (samples : List Sample) → IsMeasured self.now first samples
-            → result ≡ pages_by peak total samples }
-        ensures small { (result.without < 2 ^ 53) × (result.with < 2 ^ 53) }
-    {
-        Pages {
-            without: u64::from(self.without.total.peak),
-            with: u64::from(self.with.total.peak),
-            perfect: u64::from(self.perfect.total.peak),
+            live: u128::from(rounding::whole_pages(end.live_bytes)),
+            large: end.large_pages,
+            all: Both {
+                without: without + end.large_pages,
+                with: with + end.large_pages,
+            },
         }
     }
 
-    /// Returns the means of the total pages, for both heaps and for perfect packing.
-    pub fn means(&self) -> Pages
-        requires { IsInBounds self.now }
-        ensures value { (first : ℕ) (samples : List Sample) → IsMeasured self.now first samples
-            → result ≡ pages_by mean total samples }
-        ensures small { (result.without < 2 ^ 53) × (result.with < 2 ^ 53) }
-    {
-        Pages {
-            without: rounding::mean(self.without.total.sum, self.count),
-            with: rounding::mean(self.with.total.sum, self.count),
-            perfect: rounding::mean(self.perfect.total.sum, self.count),
-        }
-    }
-
-    /// Returns the total pages after the last call, for both heaps and for perfect packing.
-    pub fn ends(&self) -> Pages
-        requires { IsInBounds self.now }
-        ensures value { (first : ℕ) (samples : List Sample) → IsMeasured self.now first samples
-            → result ≡ pages_by last total samples }
-        ensures small { (result.without < 2 ^ 53) × (result.with < 2 ^ 53) }
-    {
-        Pages {
-            without: u64::from(total_pages(&self.end.without)),
-            with: u64::from(total_pages(&self.end.with)),
-            perfect: u64::from(total_pages(&self.end.perfect)),
-        }
-    }
-
-    /// Returns the mean of the samples' live bytes, each rounded up to whole pages. The mean is in pages, rounded half
-    /// up. It is 0 if there are no calls.
-    pub fn live_mean(&self) -> u64
+    /// Returns the peaks of the pages of empty spans in both heaps.
+    pub fn empty_peaks(&self) -> Both
         ensures { (first : ℕ) (samples : List Sample) → IsMeasured self.now first samples
-            → result ≡ mean (map live_pages samples) }
+            → result ≡ empty_by peak samples }
     {
-        rounding::mean(self.live.sum, self.count)
+        Both {
+            without: self.levels.empty_without.peak,
+            with: self.levels.empty_with.peak,
+        }
     }
 
-    /// Returns the live bytes after the last call, in whole pages.
-    pub fn live_end(&self) -> u64
+    /// Returns the means of the pages of empty spans in both heaps.
+    pub fn empty_means(&self) -> Both
         ensures { (first : ℕ) (samples : List Sample) → IsMeasured self.now first samples
-            → result ≡ last (map live_pages samples) }
+            → result ≡ empty_by mean samples }
     {
-        self.end.live_bytes.div_ceil(PAGE)
+        Both {
+            without: rounding::mean(self.levels.empty_without.sum, self.count),
+            with: rounding::mean(self.levels.empty_with.sum, self.count),
+        }
+    }
+
+    /// Returns the pages of empty spans in both heaps after the last call.
+    pub fn empty_ends(&self) -> Both
+        ensures { (first : ℕ) (samples : List Sample) → IsMeasured self.now first samples
+            → result ≡ empty_by last samples }
+    {
+        Both {
+            without: u128::from(self.end.empty_without),
+            with: u128::from(self.end.empty_with),
+        }
     }
 
     /// Returns the mean numbers of pages of the class at place `k` of the class table, for both heaps and for perfect
@@ -148,9 +193,9 @@ impl Measured {
             → result ≡ pages_by mean (of_class k) samples }
     {
         Pages {
-            without: rounding::mean(self.without.sums[k], self.count),
-            with: rounding::mean(self.with.sums[k], self.count),
-            perfect: rounding::mean(self.perfect.sums[k], self.count),
+            without: rounding::mean(u128::from(self.without.sums[k]), self.count),
+            with: rounding::mean(u128::from(self.with.sums[k]), self.count),
+            perfect: rounding::mean(u128::from(self.perfect.sums[k]), self.count),
         }
     }
 
@@ -162,18 +207,9 @@ impl Measured {
             → result ≡ pages_by last (of_class k) samples }
     {
         Pages {
-            without: u64::from(self.end.without[k]),
-            with: u64::from(self.end.with[k]),
-            perfect: u64::from(self.end.perfect[k]),
+            without: u128::from(self.end.without[k]),
+            with: u128::from(self.end.with[k]),
+            perfect: u128::from(self.end.perfect[k]),
         }
     }
-}
-
-/// Returns the number of whole pages that `bytes` bytes take, rounded up.
-fn whole_pages(bytes: u64) -> u32
-    requires { bytes < 2 ^ 40 }
-    ensures value { result ≡ div_ceil bytes 4096 }
-    ensures few { result ≤ 268435456 }
-{
-    bytes.div_ceil(PAGE) as u32
 }

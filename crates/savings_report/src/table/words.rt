@@ -1,6 +1,6 @@
 //! The words of a line: numbers, shares, and words aligned in fields.
-ghost use Rattle.std.specs.Prelude.{◌≡◌, ◌<◌, ◌^◌, ◌++◌, codes, decimal, replicate, OnOk};
-ghost use Rattle.savings_report.specs.FigureTexts.{column, counted, difference_text, left, right, saved_text, sign_text, tenths_text};
+ghost use Rattle.std.specs.Prelude.{◌≡◌, ◌<◌, ◌^◌, ◌++◌, decimal, replicate, OnOk};
+ghost use Rattle.savings_report.specs.FigureTexts.{column, counted, left, saved_text, share_column, sign_text, right, tenths_text};
 
 use crate::table::rounding::divided;
 use itoa::Buffer;
@@ -14,26 +14,16 @@ pub fn add(text: &mut Vec<u8>, word: &[u8]) -> Result<(), AllocError>
 }
 
 /// Adds a number in decimal digits.
-pub fn add_decimal(text: &mut Vec<u8>, number: u64) -> Result<(), AllocError>
+pub fn add_decimal(text: &mut Vec<u8>, number: u128) -> Result<(), AllocError>
     ensures { OnOk result (text.new.items ≡ text.old.items ++ decimal number) }
 {
     let mut digits = Buffer::new();
     add(text, digits.format(number).as_bytes())
 }
 
-/// Adds a name, and then a number of up to 128 bits.
-#[tactic(auto, unfolding(crate::specs::FigureTexts::counted))]
-pub fn add_wide_counted(text: &mut Vec<u8>, name: &[u8], number: u128) -> Result<(), AllocError>
-    ensures { OnOk result (text.new.items ≡ text.old.items ++ counted name.now number) }
-{
-    add(text, name)?;
-    let mut digits = Buffer::new();
-    add(text, digits.format(number).as_bytes())
-}
-
 /// Adds a name, and then a number.
 #[tactic(auto, unfolding(crate::specs::FigureTexts::counted))]
-pub fn add_counted(text: &mut Vec<u8>, name: &[u8], number: u64) -> Result<(), AllocError>
+pub fn add_counted(text: &mut Vec<u8>, name: &[u8], number: u128) -> Result<(), AllocError>
     ensures { OnOk result (text.new.items ≡ text.old.items ++ counted name.now number) }
 {
     add(text, name)?;
@@ -67,23 +57,15 @@ pub fn add_left(text: &mut Vec<u8>, width: usize, word: &[u8]) -> Result<(), All
 }
 
 /// Adds a number, right-aligned in a field of this width.
-pub fn add_number_right(text: &mut Vec<u8>, width: usize, number: u64) -> Result<(), AllocError>
-    ensures { OnOk result (text.new.items ≡ text.old.items ++ right width (decimal number)) }
+pub fn add_column(text: &mut Vec<u8>, width: usize, number: u128) -> Result<(), AllocError>
+    ensures { OnOk result (text.new.items ≡ text.old.items ++ column width number) }
 {
     let mut digits = Buffer::new();
     add_right(text, width, digits.format(number).as_bytes())
 }
 
-/// Adds a space, and then a number right-aligned in a field of this width.
-pub fn add_column(text: &mut Vec<u8>, width: usize, number: u64) -> Result<(), AllocError>
-    ensures { OnOk result (text.new.items ≡ text.old.items ++ column width number) }
-{
-    add(text, b" ")?;
-    add_number_right(text, width, number)
-}
-
 /// Adds a number, left-aligned in a field of this width.
-pub fn add_number_left(text: &mut Vec<u8>, width: usize, number: u64) -> Result<(), AllocError>
+pub fn add_number_left(text: &mut Vec<u8>, width: usize, number: u128) -> Result<(), AllocError>
     ensures { OnOk result (text.new.items ≡ text.old.items ++ left width (decimal number)) }
 {
     let mut digits = Buffer::new();
@@ -92,7 +74,7 @@ pub fn add_number_left(text: &mut Vec<u8>, width: usize, number: u64) -> Result<
 
 /// Adds a number that is given in tenths, with one digit after the decimal point.
 #[tactic(auto, unfolding(crate::specs::FigureTexts::tenths_text))]
-pub fn add_tenths(text: &mut Vec<u8>, tenths: u64) -> Result<(), AllocError>
+pub fn add_tenths(text: &mut Vec<u8>, tenths: u128) -> Result<(), AllocError>
     ensures { OnOk result (text.new.items ≡ text.old.items ++ tenths_text tenths) }
 {
     add_decimal(text, tenths / 10)?;
@@ -100,38 +82,31 @@ pub fn add_tenths(text: &mut Vec<u8>, tenths: u64) -> Result<(), AllocError>
     add_decimal(text, tenths % 10)
 }
 
-/// Adds a minus sign if `with` is above `without`, and nothing otherwise.
-fn add_sign(text: &mut Vec<u8>, without: u64, with: u64) -> Result<(), AllocError>
-    ensures { OnOk result (text.new.items ≡ text.old.items ++ sign_text without with) }
+/// Adds a minus sign if `without` is below `with` and `tenths` isn't 0, and nothing otherwise.
+#[tactic(auto, unfolding(crate::specs::FigureTexts::sign_text))]
+fn add_sign(text: &mut Vec<u8>, without: u128, with: u128, tenths: u128) -> Result<(), AllocError>
+    ensures { OnOk result (text.new.items ≡ text.old.items ++ sign_text without with tenths) }
 {
-    if without < with {
+    if without < with && tenths > 0 {
         add(text, b"-")?;
     }
     Ok(())
 }
 
-/// Adds `without - with`, which may be negative.
-#[tactic(auto, unfolding(crate::specs::FigureTexts::difference_text))]
-pub fn add_difference(text: &mut Vec<u8>, without: u64, with: u64) -> Result<(), AllocError>
-    ensures { OnOk result (text.new.items ≡ text.old.items ++ difference_text without with) }
-{
-    add_sign(text, without, with)?;
-    add_decimal(text, without.abs_diff(with))
-}
-
 /// Adds the share of pages that meshing saves, in percent, or a dash if `without` is 0. The share is negative if `with`
-/// is above `without`.
-#[tactic(auto, unfolding(crate::specs::FigureTexts::saved_text))]
-pub fn add_saved(text: &mut Vec<u8>, without: u64, with: u64) -> Result<(), AllocError>
-    requires without { without < 2 ^ 53 }
-    requires with { with < 2 ^ 53 }
+/// is above `without` and the share isn't rounded to 0.
+#[tactic(auto, unfolding(crate::specs::FigureTexts::saved_text, crate::specs::FigureTexts::saved_tenths))]
+pub fn add_saved(text: &mut Vec<u8>, without: u128, with: u128) -> Result<(), AllocError>
+    requires without { without < 2 ^ 118 }
+    requires with { with < 2 ^ 118 }
     ensures { OnOk result (text.new.items ≡ text.old.items ++ saved_text without with) }
 {
     if without == 0 {
         return add(text, b"-");
     }
-    add_sign(text, without, with)?;
-    add_tenths(text, divided(1000 * without.abs_diff(with), without))?;
+    let tenths = divided(1000 * without.abs_diff(with), without);
+    add_sign(text, without, with, tenths)?;
+    add_tenths(text, tenths)?;
     add(text, b"%")
 }
 
@@ -139,12 +114,12 @@ pub fn add_saved(text: &mut Vec<u8>, without: u64, with: u64) -> Result<(), Allo
 pub fn add_saved_column(
     text: &mut Vec<u8>,
     width: usize,
-    without: u64,
-    with: u64,
+    without: u128,
+    with: u128,
 ) -> Result<(), AllocError>
-    requires without { without < 2 ^ 53 }
-    requires with { with < 2 ^ 53 }
-    ensures { OnOk result (text.new.items ≡ text.old.items ++ (codes " " ++ right width (saved_text without with))) }
+    requires without { without < 2 ^ 118 }
+    requires with { with < 2 ^ 118 }
+    ensures { OnOk result (text.new.items ≡ text.old.items ++ share_column width without with) }
 {
     let mut saved = Vec::new(*text.allocator());
     add_saved(&mut saved, without, with)?;

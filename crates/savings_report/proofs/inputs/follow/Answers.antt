@@ -50,6 +50,29 @@ loop-entry-preserved g c =
           c.lines.result c.lines.ensures gone come (c.in_ok-used_up_at.ensures.passed (sym c.is_some.ensures ∙ c.if-is_some.false));
     }
 
+-- the same where bytes of the entry are dropped, inline or allocated
+pub loop-entry-preserved-else-is_some : goal.loop-entry-preserved-else-is_some
+loop-entry-preserved-else-is_some g c =
+    let left = g.I.Source.remaining in
+    let gone = c.loop-entry.invariant.gone in
+    let come : HasCome c.next.new.self (left c.args.input.now) (left c.next.new.input) (gone.entries ++ plain_entry c.in-Some.entry ∷ [])
+    = some_holds _ _ _ c.in-Some.is (c.in_ok-entry.ensures.entry _ _ gone.come) in record {
+      input = c.in_ok-entry.ensures.ok;
+      gone = entry_gone c.loop-entry.history c.next.new.self c.args.run.now c.loop-entry.run c.take_entry.new.self _ _ _ (plain_entry c.in-Some.entry)
+          c.lines.result c.lines.ensures gone come (c.in_ok-used_up_at.ensures.passed (sym c.is_some.ensures ∙ c.if-is_some.false));
+    }
+
+pub loop-entry-preserved-else-is_some-2 : goal.loop-entry-preserved-else-is_some-2
+loop-entry-preserved-else-is_some-2 g c =
+    let left = g.I.Source.remaining in
+    let gone = c.loop-entry.invariant.gone in
+    let come : HasCome c.next.new.self (left c.args.input.now) (left c.next.new.input) (gone.entries ++ plain_entry c.in-Some.entry ∷ [])
+    = some_holds _ _ _ c.in-Some.is (c.in_ok-entry.ensures.entry _ _ gone.come) in record {
+      input = c.in_ok-entry.ensures.ok;
+      gone = entry_gone c.loop-entry.history c.next.new.self c.args.run.now c.loop-entry.run c.take_entry.new.self _ _ _ (plain_entry c.in-Some.entry)
+          c.lines.result c.lines.ensures gone come (c.in_ok-used_up_at.ensures.passed (sym c.is_some.ensures ∙ c.if-is_some.false));
+    }
+
 pub returns-clause-followed : goal.returns-clause-followed
 returns-clause-followed g c = λ options at.
     let gone = c.loop-entry.invariant.gone in

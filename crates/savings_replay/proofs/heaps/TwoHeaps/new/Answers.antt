@@ -27,6 +27,7 @@ returns-clause-made c =
       with_placed = b.placed;
       counts = refl;
       words = refl;
+      members = refl;
       without_serial = a.serial;
       with_serial = b.serial;
       without_recorded = a.recorded;

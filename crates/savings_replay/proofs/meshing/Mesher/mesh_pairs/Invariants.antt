@@ -9,6 +9,6 @@ use Rattle.savings_replay.proofs.meshing.Mesher.mesh_pairs.Given as goal
 abbrev pub invariant-loop-pair : goal.invariant-loop-pair
 invariant-loop-pair l = record {
   value : pairs_meshed (meshing_of l.self) (map pairing (drop l.pair-index l.pairs)) ≡ pairs_meshed (meshing_of l.fn.self) (map pairing l.pairs);
-  counts : IsAfterPairs l.fn.self.counts l.self.counts l.pair-index;
+  counts : IsAfterPairs l.fn.self.counts l.self.counts l.pair-index 0;
   kept : IsAsBefore l.fn.self l.self;
 }

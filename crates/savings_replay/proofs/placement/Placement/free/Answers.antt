@@ -1,6 +1,6 @@
 use Rattle.std.proofs.Common.{IsSome, subst, sym}
 use Rattle.mesh_spans.specs.Index.{record_at}
-use Rattle.savings_replay.proofs.ClassChanges.{freed_counts, freed_within}
+use Rattle.savings_replay.proofs.ClassChanges.{freed_counts, freed_pages_within, freed_within}
 use Rattle.savings_replay.proofs.Freed.{IsVacated, freed}
 use Rattle.savings_replay.proofs.Kept.{seen_of}
 use Rattle.savings_replay.specs.Placement.{IsFreed, IsPlacement, Placement}
@@ -21,18 +21,27 @@ left c = freed (seen_of c.self.inside) c.vacate.new.self c.args.span c.args.slot
     (recorded c) (vacated c)
 
 pub lower-requires : goal.lower-requires
-lower-requires c = freed_within c.self.inside.spans c.class_of-class.result c.args.span c.args.slot c.self.inside.class_pages.counts
-    c.self.inside.class_objects.counts c.sound.ensures
-    (recorded (goal.at.lower-requires c).After-vacate) c.class_of-class.ensures c.self.invariant.1
+lower-requires c =
+    let at = (goal.at.lower-requires c).After-vacate in
+    freed_pages_within c.self.inside.spans c.class_of-class.result c.args.span c.args.slot c.self.inside.held_pages.counts c.self.inside.class_objects.counts
+    c.sound.ensures (recorded at) c.vacate.new.self c.empty_pages_at-pages.result c.class_of-class.ensures c.self.invariant.1 (vacated at)
+    c.empty_pages_at-pages.ensures.value
+
+pub lower-requires-2 : goal.lower-requires-2
+lower-requires-2 c =
+    let at = (goal.at.lower-requires-2 c).After-vacate in
+    freed_within c.self.inside.spans c.class_of-class.result c.args.span c.args.slot c.self.inside.held_pages.counts c.self.inside.class_objects.counts
+    c.sound.ensures (recorded at) c.vacate.new.self c.empty_pages_at-pages.result c.class_of-class.ensures c.self.invariant.1 (vacated at)
+    c.empty_pages_at-pages.ensures.value
 
 pub invariant_of-self : goal.invariant_of-self
-invariant_of-self c = (
-  (left (goal.at.invariant_of-self c).After-vacate).0,
-  rw c.lower.ensures (freed_counts c.self.inside.spans c.class_of-class.result c.args.span c.args.slot c.self.inside.class_pages.counts
-      c.self.inside.class_objects.counts
-      c.sound.ensures (recorded (goal.at.invariant_of-self c).After-vacate) c.vacate.new.self c.class_of-class.ensures c.self.invariant.1
-      (vacated (goal.at.invariant_of-self c).After-vacate)),
-)
+invariant_of-self c =
+    let at = (goal.at.invariant_of-self c).After-vacate in (
+      (left at).0,
+      rw (c.lower.ensures, c.lower-2.ensures) (freed_counts c.self.inside.spans c.class_of-class.result c.args.span c.args.slot c.self.inside.held_pages.counts
+          c.self.inside.class_objects.counts c.sound.ensures (recorded at) c.vacate.new.self c.empty_pages_at-pages.result c.class_of-class.ensures
+          c.self.invariant.1 (vacated at) c.empty_pages_at-pages.ensures.value),
+    )
 
 pub returns : goal.returns
 returns c = rw (← c.self.view_is) (left (goal.at.returns c).After-vacate).1

@@ -1,14 +1,16 @@
-use Rattle.std.proofs.Common.{◌≡◌, false, Err, ap, refl, subst, sum_by, sym, ◌∙◌}
+use Rattle.std.proofs.Common.{◌≡◌, ℕ, false, Err, Option, Some, None, ap, refl, subst, sum_by, sym, ◌∙◌}
+use Rattle.std.specs.Prelude.{min}
 use Rattle.model_heap.specs.Mesh.{may_begin, mesh_of_class}
 use Rattle.model_heap.specs.Table.{len_in}
 use Rattle.mesh_class.specs.Classes.{pages_of}
 use Rattle.mesh_spans.proofs.HandedOn.{handed_on}
 use Rattle.mesh_spans.specs.Groups.{groups_of}
-use Rattle.mesh_spans.specs.Index.{GroupEntry}
+use Rattle.mesh_spans.specs.Index.{GroupEntry, group_at}
 use Rattle.mesh_spans.specs.Pairs.{IsTableOf, MayMerge}
+use Rattle.savings_replay.specs.ClassCounts.{amount, entry_held}
 use Rattle.savings_replay.specs.Placement.{Placement, table_of}
 use Rattle.savings_replay.proofs.placement.Placement.may_mesh.Goals as goal
-use Rattle.savings_replay.proofs.placement.Placement.may_mesh.Goals.{After-may_merge}
+use Rattle.savings_replay.proofs.placement.Placement.may_mesh.Goals.{After-may_merge, in-Some, in-None}
 
 -- the table is one of the index, in which no class is busy
 idle : (c : After-may_merge) → IsTableOf c.self.inside.spans c.args.source false mesh_of_class (table_of c.args.self.now)
@@ -28,5 +30,17 @@ returns-clause-may c =
       merge = may;
       class_is = ap (λ (x : GroupEntry). x.class) may.source_is ∙ sym c.class-class.ensures;
       pages_are = c.pages.ensures.value ∙ ap pages_of (c.class-class.ensures ∙ ap (λ (x : GroupEntry). x.class) (sym may.source_is));
+      held_are = elim c.match-group.branch [
+        | in-Some w ↦
+            let to : Some w.in-Some.to.now ≡ Some may.pair.b = w.in-Some.ensures
+            ∙ ap (λ (p : Placement). group_at p.index.groups c.args.destination) c.self.view_is ∙ may.pair.destination in
+            w.held-is ∙ w.min-held.ensures ∙ ap (λ (n : ℕ). min n w.held_pages_of-in-Some.result) w.held_pages_of.ensures
+            ∙ ap (λ (n : ℕ). min (entry_held c.in_ok-from.from.now) n) w.held_pages_of-in-Some.ensures
+            ∙ ap (λ (x : GroupEntry). min (entry_held x) (entry_held w.in-Some.to.now)) (sym may.source_is)
+            ∙ ap (λ (o : Option GroupEntry). min (entry_held may.pair.a) (amount entry_held o)) to
+        | in-None w ↦
+            let clash : None ≡ Some may.pair.b = w.in-None.ensures
+            ∙ ap (λ (p : Placement). group_at p.index.groups c.args.destination) c.self.view_is ∙ may.pair.destination in absurd (cc clash)
+      ];
       bytes_are = c.bytes_of.ensures ∙ ap (λ (x : GroupEntry). sum_by len_in x.slots) (sym may.source_is);
     }

@@ -29,14 +29,14 @@ slot_within c = let is = slot_is c in let some = c.pages-count.ensures.class.som
 
 pub raise-requires : goal.raise-requires
 raise-requires c =
-    let few = pages_entry_few (seen_of c.self.inside) c.args.class c.self.inside.class_pages.counts c.self.inside.class_objects.counts
+    let few = pages_entry_few (seen_of c.self.inside) c.args.class c.self.inside.held_pages.counts c.self.inside.class_objects.counts
     c.pages-count.ensures.class
     c.self.invariant.0 c.self.invariant.1 in
     let count = c.pages-count.ensures.value in let three = c.pages-count.ensures.class.few_pages in omega (arith, few, count, three)
 
 pub raise-requires-2 : goal.raise-requires-2
 raise-requires-2 c =
-    let few = objects_entry_few (seen_of c.self.inside) c.args.class c.self.inside.class_pages.counts c.self.inside.class_objects.counts
+    let few = objects_entry_few (seen_of c.self.inside) c.args.class c.self.inside.held_pages.counts c.self.inside.class_objects.counts
     c.pages-count.ensures.class
     c.self.invariant.0 c.sound.ensures c.self.invariant.1 in omega (arith, few)
 
@@ -49,8 +49,8 @@ invariant_of-self-2 c =
           (record { spans = c.occupy.ensures.spans; groups = c.occupy.ensures.groups; table = c.occupy.ensures.table; closed = c.occupy.ensures.closed }),
       rw (c.raise.ensures, c.raise-2.ensures) (spanned_counts c.self.inside.spans c.add_span.new.spans c.occupy.new.self c.args.class c.self.inside.next_page
           c.in-Ok.span
-          c.numbered-slot.result c.self.inside.next_serial c.args.len c.pages-count.result c.self.inside.class_pages.counts c.self.inside.class_objects.counts
-          c.pages-count.ensures.class c.pages-count.ensures.value (slot_within at) c.in-Ok.ensures.added
+          c.numbered-slot.result c.self.inside.next_serial c.args.len c.pages-count.result c.self.inside.held_pages.counts c.self.inside.class_objects.counts
+          c.pages-count.ensures.class c.pages-count.ensures.value (slot_within at) c.sound.ensures c.in-Ok.ensures.added
           (record { spans = c.occupy.ensures.spans; groups = c.occupy.ensures.groups; table = c.occupy.ensures.table; closed = c.occupy.ensures.closed })
           c.self.invariant.1),
     )

@@ -10,17 +10,18 @@ use Rattle.savings_replay.proofs.savings.Savings.free.Goals.{In-Some}
 out : (c : In-Some) → IsTakenOut c.self.inside.objects c.take_out.new.self c.args.cell c.in-Some.field-0-0 c.in-Some.object
 out c = c.in-Some.ensures.some
 
-pub returns-in_ok-free_and_round-in-Small-clause-taken :
-    goal.returns-in_ok-free_and_round-in-Small-clause-taken
-returns-in_ok-free_and_round-in-Small-clause-taken c = λ f fol.
-    let at = (goal.at.returns-in_ok-free_and_round-in-Small-clause-taken c).In-Some in
+pub returns-in_ok-round_if_due-in-Small-clause-taken :
+    goal.returns-in_ok-round_if_due-in-Small-clause-taken
+returns-in_ok-round_if_due-in-Small-clause-taken c = λ f fol.
+    let at = (goal.at.returns-in_ok-round_if_due-in-Small-clause-taken c).In-Some in
     let inside = c.self.inside in
-    rw (c.small_free-self-inside.ensures.value, c.is_due-is_due.ensures, ← c.self.view_is)
-    (small_free inside.settings inside.objects c.take_out.new.self inside.counts inside.new_words inside.heaps c.free_and_round.new.self f c.args.cell
-    c.in-Some.field-0-0 c.in-Small.places (subst (λ (k : Kept). Follows k f) (sym c.self.view_is) fol)
+    rw (c.small_free-self-inside.ensures.value, c.is_due-is_due.ensures, c.free-live.ensures.left, ← c.self.view_is)
+    (small_free inside.settings inside.objects c.take_out.new.self inside.counts inside.new_words inside.heaps c.free-live.new.self c.round_if_due.new.self f
+    c.args.cell c.in-Some.field-0-0 c.in-Small.places (subst (λ (k : Kept). Follows k f) (sym c.self.view_is) fol)
     (subst (λ (x : Object). IsTakenOut inside.objects c.take_out.new.self c.args.cell c.in-Some.field-0-0 x) c.in-Small.is (out at))
-    (λ serial len there. rw (← c.is_due-is_due.ensures) (c.in_ok-free_and_round-in-Small.ensures.value serial len there))
-    (λ serial len there. c.free_and_round.ensures.kept serial len there))
+    c.free-live.ensures.freed
+    (rw (← c.free-live.ensures.left, ← c.is_due-is_due.ensures) c.in_ok-round_if_due-in-Small.ensures.value)
+    c.round_if_due.ensures.kept)
 
 pub returns-in-Large-clause-taken : goal.returns-in-Large-clause-taken
 returns-in-Large-clause-taken c = λ f fol.

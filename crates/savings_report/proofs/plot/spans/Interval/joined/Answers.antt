@@ -1,8 +1,8 @@
-use Rattle.std.proofs.Common.{◌≡◌, ◌++◌, map, ap}
-use Rattle.savings_report.specs.Intervals.{span_of}
+use Rattle.std.proofs.Common.{◌≡◌, ◌++◌, map, ap, sym, ◌∙◌}
+use Rattle.savings_report.specs.Intervals.{last_reading, span_of}
 use Rattle.savings_report.specs.declared.plot.readings.Reading.{Reading}
 use Rattle.savings_report.specs.declared.plot.spans.Interval.{Interval}
-use Rattle.savings_report.proofs.SpanLemmas.{joined_span}
+use Rattle.savings_report.proofs.SpanLemmas.{joined_span, last_append}
 use Rattle.savings_report.proofs.plot.spans.Interval.joined.Goals as goal
 
 pub returns : goal.returns
@@ -19,4 +19,6 @@ returns c = λ these those some others first second.
     let live : c.joined-4.result ≡ span_of (map (λ (r : Reading). r.live) (these ++ those)) =
     joined_span (λ (r : Reading). r.live) c.joined-4.result _ _ these those some others c.joined-4.ensures.least c.joined-4.ensures.greatest
     (ap (λ (i : Interval). i.live) first) (ap (λ (i : Interval). i.live) second) in
-    rw (without, with, perfect, live)
+    let last : c.args.next.last ≡ last_reading (these ++ those) =
+    ap (λ (i : Interval). i.last) second ∙ sym (last_append these those others) in
+    rw (without, with, perfect, live, last)

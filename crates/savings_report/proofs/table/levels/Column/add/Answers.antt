@@ -15,7 +15,7 @@ returns-clause-bounds c = λ count h.
     let ten : length c.args.pages.now ≡ 10 = search rules in
     let few : sum c.args.pages.now ≤ 1310720 = few_total c.args.pages.now ten c.requires.few in
     record {
-      total_in = omega (arith, h.total_in, few);
+      total_in = c.add.ensures.bounds 1310720 count (omega (arith, few)) h.total_in;
       sums_in = λ k below.
           let pages : slice_index c.args.pages.now k < 131072 = c.requires.few k 0 (omega arith) in
           omega (arith, c.add_each.ensures k below, h.sums_in k below, pages);
