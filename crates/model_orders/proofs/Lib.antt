@@ -1,0 +1,12 @@
+pub mod Points
+pub mod Explained
+pub mod Moves
+pub mod Witnesses
+pub mod Faults
+pub mod RowExplained
+pub mod RowBegins
+pub mod RowParts
+pub mod RowMoves
+pub mod Merged
+pub mod FirstWrong
+pub mod FirstPlaces

@@ -1,0 +1,9 @@
+pub mod MergeLaws
+pub mod Merging
+pub mod Pages
+pub mod Rule
+pub mod RuleLaws
+pub mod Views
+pub mod ViewsLaws
+pub mod Wrong
+pub mod WrongLaws
