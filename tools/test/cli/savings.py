@@ -33,11 +33,13 @@ def cases(suite):
     wanted = execute([engine, TAR, "--every", 100])
     suite.compare("savings: standard input", piped, 0, wanted.output)
 
+    marks = []
     for history in [*sorted(FILES.glob("*.history")), used_up]:
         plot(suite, history)
-        for words in WINDOWS:
-            compare_curves(suite, history, *words)
+        marks += [compare_curves(suite, history, *words) for words in WINDOWS]
         refuse_all(suite, history)
+    faults = [] if any(marks) and not all(marks) else [f"the marks are {marks}"]
+    suite.report("savings: some plots have a mark, and some have none", faults)
 
 
 def golden(suite, options):
@@ -145,23 +147,27 @@ def random_options(draw, entries):
 
 
 def compare_curves(suite, history, *words):
-    """The curves of a plot are those of the rows of `--csv`."""
+    """The curves of a plot are those of the rows of `--csv`, and its mark is that of the table.
+
+    Returns the words of the mark, or None.
+    """
     name = f"savings: the curves of {shown(suite, history)}, {' '.join(map(str, words))}"
     listed = suite.run("savings", history, *words, "--csv")
     plotted = suite.run("savings", history, *words, "--svg")
     if not listed.output and not plotted.output:
         suite.report(name, [] if listed.errors else ["neither rows nor a plot, and no fault"])
-        return
+        return None
     rows = rows_of(listed.output)
     if rows is None or xml_faults(plotted.output):
         suite.report(name, ["no rows" if rows is None else "no plot"])
-        return
+        return None
     first_call = words[words.index("--from") + 1] if "--from" in words else 1
     suite.report(name, row_faults(rows) + curve_faults(plotted.output, rows, first_call))
     table = suite.run("savings", history, *words)
     wanted, mark = mark_in(table.output), mark_of(plotted.output)
     faults = [] if mark == wanted else [f"the plot has {mark!r}, and the table {wanted!r}"]
     suite.report(name.replace("the curves", "the mark"), faults)
+    return mark
 
 
 def refuse_all(suite, history):
