@@ -11,6 +11,7 @@ import sys
 from timed import measured
 
 program, room = sys.argv[1], pathlib.Path(sys.argv[2])
+RUNS = 7
 
 
 def main():
@@ -18,8 +19,12 @@ def main():
     alike = True
     print(f"{'program':12} {'calls':>10} {'calls/s':>10} {'MB':>6} {'plain':>10} {'MB':>6} {'ratio':>6}")
     for history in sorted(room.glob("*.history")):
-        ours, seconds, peak = measured(room, [program, "savings", history])
-        theirs, plain, plain_peak = measured(room, [room / "reference", history])
+        runs = [
+            (measured(room, [program, "savings", history]), measured(room, [room / "reference", history]))
+            for _ in range(RUNS)
+        ]
+        ours, seconds, peak = min((run[0] for run in runs), key=lambda run: run[1])
+        theirs, plain, plain_peak = min((run[1] for run in runs), key=lambda run: run[1])
         if ours != theirs or not ours:
             print(f"{history.stem:12} differs")
             alike = False

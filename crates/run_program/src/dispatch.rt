@@ -82,7 +82,7 @@ pub fn run<
         }
         Args::Live(args) => live(alloc, args, devices),
         Args::Check(_, args) => check(alloc, args, devices),
-        Args::Savings(_, args) => report_savings(alloc, args, devices),
+        Args::Savings(path, args) => report_savings(alloc, path, args, devices),
     }
 }
 
@@ -285,12 +285,13 @@ fn judge<I: Source + Drop, O: Sink, E: Sink>(
 /// Reports what meshing saves for a recorded history.
 fn report_savings<I: Source, O: Sink, E: Sink>(
     alloc: Global,
+    path: &str,
     args: &SavingsArgs,
     mut devices: Devices<I, O, E>,
 ) -> Ended<I, O, E>
     requires { IsSound devices }
     ensures { EndsSavings (options_of args.now) devices result.devices result.status }
 {
-    let status = savings_run(alloc, args, &mut devices);
+    let status = savings_run(alloc, path, args, &mut devices);
     Ended { status, devices }
 }

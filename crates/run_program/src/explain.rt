@@ -149,7 +149,12 @@ fn history_fault(alloc: Global, text: &[u8]) -> Option<Found>
 fn savings_fault(alloc: Global, args: &SavingsArgs, text: &[u8]) -> Option<Found>
     ensures { IfSome result (IsFoundBySavings (options_of args.now) text.now) }
 {
-    match report(alloc, &mut TextSource { rest: text }, &options_of(args)) {
+    match report(
+        alloc,
+        "-",
+        &mut TextSource { rest: text },
+        &options_of(args),
+    ) {
         Err(SavingsError::Replay(ReplayError::Text(fault))) => Some(Found::Text(fault)),
         Err(SavingsError::NotAHistory(line)) => Some(Found::NoObject(line)),
         _ => None,

@@ -14,7 +14,8 @@ use std::alloc::Global;
 use text_devices::{Sink, Source, write_lines};
 
 /// Follows the recorded history in the input on two heaps, writes what meshing saves to the output, as a table, a plot
-/// or comma-separated values, and returns the exit status. Any fault is written to `errors`.
+/// or comma-separated values, and returns the exit status. Any fault is written to `errors`. A plot has the name of the
+/// file at `path`, which is `-` for standard input.
 ///
 /// The status is 0 with the whole report. The status is 4 if a heap has too few virtual pages left for the `new` of
 /// call N. Then the report has the calls before N, and the line is `addresses used up at call N`.
@@ -24,6 +25,7 @@ use text_devices::{Sink, Source, write_lines};
 /// reason before this fault. If the line can't be written, the status is the same.
 pub fn savings_run<I: Source, O: Sink, E: Sink>(
     alloc: Global,
+    path: &str,
     args: &SavingsArgs,
     devices: &mut Devices<I, O, E>,
 ) -> u8
@@ -31,7 +33,13 @@ pub fn savings_run<I: Source, O: Sink, E: Sink>(
     ensures { EndsSavings (options_of args.now) devices.old devices.new result }
 {
     let options = options_of(args);
-    match write_report(alloc, &mut devices.input, &mut devices.output, &options) {
+    match write_report(
+        alloc,
+        path,
+        &mut devices.input,
+        &mut devices.output,
+        &options,
+    ) {
         Ok(None) => DONE,
         Ok(Some(call)) => {
             tell(&mut devices.errors, used_up_line(call).as_slice());
@@ -78,6 +86,7 @@ pub(crate) fn options_of(args: &SavingsArgs) -> SavingsOptions
 /// virtual pages left, if there is such a call.
 fn write_report<I: Source, O: Sink>(
     alloc: Global,
+    path: &str,
     input: &mut I,
     output: &mut O,
     options: &SavingsOptions,
@@ -93,7 +102,7 @@ fn write_report<I: Source, O: Sink>(
         (O.written output.new)) }
     ensures failed { IfErr result (HasFailedSavings (I.has_failed input.new) (O.has_failed output.new)) }
 {
-    let report = report(alloc, input, options)?;
+    let report = report(alloc, path, input, options)?;
     write_lines(output, report.text.as_slice())?;
     Ok(report.used_up_at)
 }

@@ -1,9 +1,10 @@
 -- What the groups of each class count, as the index changes.
-use Rattle.std.proofs.Common.{◌≡◌, ◌≢◌, ℕ, ◌+◌, ◌-◌, ◌<◌, ◌≤◌, if◌then◌else◌, nat_eq, true, false, count_by, find, is_some, List, [], ◌∷◌, ◌++◌, Option, Some, None, length, map, slice_get, slice_index, slice_set, ap, refl, sym, ◌∙◌, arith, inl, inr}
+use Rattle.std.proofs.Common.{◌≡◌, ◌≢◌, ℕ, ◌+◌, ◌-◌, ◌<◌, ◌≤◌, if◌then◌else◌, nat_eq, true, false, count_by, find, is_some, List, [], ◌∷◌, ◌++◌, Option, Some, None, length, map, slice_get, slice_index, slice_set, sum, take, ap, refl, sym, ◌∙◌, arith, inl, inr}
 use Rattle.std.specs.Option.{option_map_or}
 use Rattle.std.proofs.lemmas.Bool.{eq-eqb, ne_eqb}
 use Rattle.std.proofs.lemmas.Bool.Decides.{eqb_tells, nat_tests}
-use Rattle.std.proofs.lemmas.List.Sums.{sum_by-set, sum_by_push}
+use Rattle.std.proofs.lemmas.List.{take_all}
+use Rattle.std.proofs.lemmas.List.Sums.{sum_by-set, sum_by_more, sum_by_push}
 use Rattle.std.proofs.lemmas.Option.{get_or_from_slice_get, slice_get_within}
 use Rattle.model_heap.specs.Mesh.{do_overlap, united}
 use Rattle.model_heap.specs.Table.{Slot}
@@ -13,6 +14,30 @@ use Rattle.mesh_class.specs.Classes.{IsClass, slots_of}
 use Rattle.mesh_spans.proofs.CountLemmas.{sum_united}
 use Rattle.mesh_spans.specs.Index.{GroupEntry, group_at}
 use Rattle.savings_replay.specs.ClassCounts.{amount, class_count, count_by_class, counted_for}
+
+-- ten numbers add up to their sum
+pub ten_added : (ns : List ℕ) → length ns ≡ 10
+    → sum ns ≡ slice_index ns 0 + slice_index ns 1 + slice_index ns 2 + slice_index ns 3 + slice_index ns 4 + slice_index ns 5
+    + slice_index ns 6 + slice_index ns 7 + slice_index ns 8 + slice_index ns 9
+ten_added ns ten =
+    let more : (k : ℕ) → k < 10 → sum (take (k + 1) ns) ≡ sum (take k ns) + slice_index ns k =
+    λ k below. sum_by_more (λ (n : ℕ). n) ns k 0 (omega (arith, ten, below)) in
+    let whole : sum (take 10 ns) ≡ sum ns = ap sum (take_all 10 ns (omega (arith, ten))) in
+    let at : (k : ℕ) → k < 10 → sum (take (k + 1) ns) ≡ sum (take k ns) + slice_index ns k = more in
+    omega (
+      arith,
+      whole,
+      at 0 (omega arith),
+      at 1 (omega arith),
+      at 2 (omega arith),
+      at 3 (omega arith),
+      at 4 (omega arith),
+      at 5 (omega arith),
+      at 6 (omega arith),
+      at 7 (omega arith),
+      at 8 (omega arith),
+      at 9 (omega arith),
+    )
 
 -- no two of the rows have one size
 abbrev pub AreApart : List Row → Type 0

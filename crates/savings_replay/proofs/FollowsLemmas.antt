@@ -4,11 +4,10 @@ use Rattle.std.proofs.lemmas.Bool.Decides.{eqb_tells}
 use Rattle.savings_replay.specs.Followed.{Followed, Large as LiveLarge, Live, Small as LiveSmall, object_in, object_of, with_at}
 use Rattle.savings_replay.specs.Follows.{AreApart, IsKept}
 use Rattle.savings_replay.specs.HeapChanges.{IsAt}
-use Rattle.savings_replay.specs.Objects.{cell_of, entry_of, live_number, number_in}
+use Rattle.savings_replay.specs.Objects.{Objects, cell_of, entry_of, live_number, number_in}
 use Rattle.savings_replay.specs.declared.heaps.TwoHeaps.{TwoHeaps}
 use Rattle.savings_replay.specs.declared.objects.Object.{Object}
 use Rattle.savings_replay.specs.declared.objects.Object.TheVariants.{Small, Large}
-use Rattle.savings_replay.specs.declared.objects.Objects.{Objects}
 use Rattle.savings_replay.specs.declared.objects.Places.{Places}
 
 -- the function with another value at a number

@@ -23,3 +23,6 @@ pub mod Room
 pub mod SlotRecords
 pub mod Swept
 pub mod WholeMeshes
+pub mod CellLemmas
+pub mod LiveLemmas
+pub mod NoneEmpty

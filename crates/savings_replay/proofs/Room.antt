@@ -40,20 +40,33 @@ open_found p class word (Some r) calm picked none =
     go None is found = absurd found
     go (Some group) is found = ap is_some (sym is)
 
--- so an open slot of the index is room, and where there is none a new span is
-module _ (inside seen : Placement) (class len : ℕ) (slot : Option (ℕ × ℕ)) (is_there : Bool) (same : inside ≡ seen) (kept : IsPlacement inside)
-    (class_is : class_for len ≡ Some class) (some : 1 ≤ len) (there_is : is_there ≡ is_some slot)
-    (picked : IfSome slot (λ r. IsSomeAnd (find (takes_objects (is_closed inside.index) class) (groups_of inside.index))
-    (λ group. IsPicked inside.index group 0 r.0 r.1)))
-    (none : IfNone slot (find (takes_objects (is_closed inside.index) class) (groups_of inside.index) ≡ None)) where
-  told : (word serial : ℕ) → is_ok (place_new (table_of seen) len word serial) ≡ (is_there || is_ok (room_for_span (table_of seen) class))
-  told word serial = subst (λ (p : Placement). is_ok (place_new (table_of p) len word serial) ≡ (is_there || is_ok (room_for_span (table_of p) class))) same
-      (new_room (table_of inside) class len word serial class_is some
-      ∙ ap (λ (b : Bool). b || is_ok (room_for_span (table_of inside) class)) (open_found inside class 0 slot kept.calm picked none ∙ sym there_is))
+or_true : (b : Bool) → (b || true) ≡ true
+or_true true = refl
+or_true false = refl
 
-  pub open_room : is_there ≡ true → (word serial : ℕ) → is_ok (place_new (table_of seen) len word serial) ≡ is_there
-  open_room is word serial = told word serial ∙ ap (λ (b : Bool). b || is_ok (room_for_span (table_of seen) class)) is ∙ sym is
+or_false : (b : Bool) → (b || false) ≡ b
+or_false true = refl
+or_false false = refl
 
-  pub span_room : (room : Bool) → is_there ≡ false → is_ok (room_for_span (table_of seen) class) ≡ room
-      → (word serial : ℕ) → is_ok (place_new (table_of seen) len word serial) ≡ room
-  span_room room is room_is word serial = told word serial ∙ ap (λ (b : Bool). b || is_ok (room_for_span (table_of seen) class)) is ∙ room_is
+-- a new span is room
+pub room_left : (t : Table) (class len : ℕ) (room : Bool) → class_for len ≡ Some class → 1 ≤ len → is_ok (room_for_span t class) ≡ room → room ≡ true
+    → (word serial : ℕ) → is_ok (place_new t len word serial) ≡ room
+room_left t class len room class_is some room_is left word serial =
+    new_room t class len word serial class_is some
+    ∙ ap (λ (b : Bool). is_some (find (is_open t class) t.groups) || b) (room_is ∙ left) ∙ or_true (is_some (find (is_open t class) t.groups)) ∙ sym left
+
+-- where there is none, an open slot of the index is room
+pub slot_room : (inside seen : Placement) (class len : ℕ) (slot : Option (ℕ × ℕ)) (is_there room : Bool) → inside ≡ seen → IsPlacement inside
+    → class_for len ≡ Some class → 1 ≤ len → is_there ≡ is_some slot
+    → IfSome slot (λ r. IsSomeAnd (find (takes_objects (is_closed inside.index) class) (groups_of inside.index))
+    (λ group. IsPicked inside.index group 0 r.0 r.1))
+    → IfNone slot (find (takes_objects (is_closed inside.index) class) (groups_of inside.index) ≡ None)
+    → is_ok (room_for_span (table_of seen) class) ≡ room → room ≡ false
+    → (word serial : ℕ) → is_ok (place_new (table_of seen) len word serial) ≡ is_there
+slot_room inside seen class len slot is_there room same kept class_is some there_is picked none room_is left word serial =
+    let found : is_some (find (is_open (table_of seen) class) (table_of seen).groups) ≡ is_there =
+    subst (λ (p : Placement). is_some (find (is_open (table_of p) class) (table_of p).groups) ≡ is_there) same
+    (open_found inside class 0 slot kept.calm picked none ∙ sym there_is) in
+    new_room (table_of seen) class len word serial class_is some
+    ∙ ap (λ (b : Bool). is_some (find (is_open (table_of seen) class) (table_of seen).groups) || b) (room_is ∙ left)
+    ∙ or_false (is_some (find (is_open (table_of seen) class) (table_of seen).groups)) ∙ found

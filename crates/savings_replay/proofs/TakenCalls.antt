@@ -1,7 +1,6 @@
 -- What each call leaves stands for the state after it.
-use Rattle.std.proofs.Common.{◌≡◌, ◌∙◌, ℕ, ◌+◌, true, false, ◌&&◌, is_ok, nat_eq, is_some, List, Option, Some, None, Result, Ok, Err, ap, refl, subst, sym}
+use Rattle.std.proofs.Common.{◌≡◌, ◌∙◌, ℕ, ◌+◌, true, false, ◌&&◌, is_ok, is_some, List, Option, Some, None, Result, Ok, Err, ap, refl, subst, sym}
 use Rattle.std.specs.Prelude.{sum_by}
-use Rattle.std.specs.Map.{lookup}
 use Rattle.model_heap.specs.Table.{Placed, Table, object_count, place_new}
 use Rattle.model_words.specs.declared.refusals.Refusal.{Refusal}
 use Rattle.savings_replay.specs.Placement.{table_of}
@@ -11,13 +10,13 @@ use Rattle.savings_replay.specs.Followed.{Followed, Large as LiveLarge, Live, No
 use Rattle.savings_replay.specs.Follows.{Follows, IsKept, IsTaken, kept_of}
 use Rattle.savings_replay.specs.HeapChanges.{AreKept, AreKeptBut, IsAt, IsFreedFrom, IsMadeIn, has_room, heaps_of}
 use Rattle.savings_replay.specs.Meshing.{Heaps, Meshing}
-use Rattle.savings_replay.specs.Objects.{IsAliased, IsTakenOut, cell_of, entry_of, number_in}
+use Rattle.savings_replay.specs.LiveObjects.{found as found_in}
+use Rattle.savings_replay.specs.Objects.{Objects, IsAliased, IsTakenOut, cell_of, entry_of, number_in}
 use Rattle.savings_replay.specs.Words.{after_new_word, new_word}
 use Rattle.savings_replay.specs.declared.counts.Counts.{Counts}
 use Rattle.savings_replay.specs.declared.heaps.TwoHeaps.{TwoHeaps}
 use Rattle.savings_replay.specs.declared.objects.Object.{Object}
 use Rattle.savings_replay.specs.declared.objects.Object.TheVariants.{Small, Large}
-use Rattle.savings_replay.specs.declared.objects.Objects.{Objects}
 use Rattle.savings_replay.specs.declared.objects.Places.{Places}
 use Rattle.savings_replay.specs.declared.taken.Taken.TheVariants.{Made, NoAddresses, NoObject}
 use Rattle.savings_replay.specs.declared.settings.Settings.{Settings}
@@ -35,7 +34,7 @@ alias_by s o n c w h f to from (Some number) fol is done =
     let after : Followed = record f { cells = with_at to (Some number) f.cells; counts = alias_counted f.counts } in
     let follows : Follows (kept_of s n (alias_counted c) w h) after = record {
       cells = λ k. done.0 k ∙ at_same to k (Some number) (cell_of o) f.cells (fol.cells k);
-      objects = λ k. subst (λ live. IsKept h (lookup (nat_eq k) live.entries) (f.live k)) (sym done.1) (fol.objects k);
+      objects = λ k. subst (λ live. IsKept h (found_in k live.list) (f.live k)) (sym done.1) (fol.objects k);
       new_words = fol.new_words;
       heaps = fol.heaps;
       counts = ap alias_counted fol.counts;

@@ -1,6 +1,5 @@
 -- The code's state, and the state of the definitions that it represents.
-use Rattle.std.specs.Prelude.{◌≡◌, ℕ, ◌*◌, ◌+◌, ◌-◌, ◌^◌, ◌<◌, ◌≤◌, List, Option, Some, None, nat_eq}
-use Rattle.std.specs.Map.{lookup}
+use Rattle.std.specs.Prelude.{◌≡◌, ℕ, ◌*◌, ◌+◌, ◌-◌, ◌^◌, ◌<◌, ◌≤◌, List, Option, Some, None}
 use Rattle.savings_replay.specs.Counts.{IsFew}
 use Rattle.savings_replay.specs.Followed.{Followed, Goes, Large as LiveLarge, Live, NoAddresses as HasNoAddresses, NoObject as HasNoObject, Outcome, Small as LiveSmall}
 use Rattle.savings_replay.specs.HeapChanges.{HaveSerial, IsAt, heaps_of}
@@ -10,7 +9,7 @@ use Rattle.savings_replay.specs.declared.counts.MeshCounts.{MeshCounts}
 use Rattle.savings_replay.specs.declared.heaps.TwoHeaps.{TwoHeaps}
 use Rattle.savings_replay.specs.declared.objects.Object.{Object}
 use Rattle.savings_replay.specs.declared.objects.Object.TheVariants.{Small, Large}
-use Rattle.savings_replay.specs.declared.objects.Objects.{Objects}
+use Rattle.savings_replay.specs.Objects.{Objects, cell_of, entry_of}
 use Rattle.savings_replay.specs.declared.taken.Taken.{Taken}
 use Rattle.savings_replay.specs.declared.taken.Taken.TheVariants.{Made, NoAddresses, NoObject}
 use Rattle.savings_replay.specs.declared.settings.Settings.{Settings}
@@ -29,8 +28,7 @@ AreApart live = (m n serial len size : ℕ) → live m ≡ Some (LiveSmall seria
 -- what the code stores, as contracts see it
 pub record Kept : Type 0 where
   pub settings : Settings
-  pub cells : List (ℕ × ℕ)
-  pub objects : List (ℕ × Object)
+  pub objects : Objects
   pub counts : Counts
   pub new_words : List ℕ
   pub heaps : TwoHeaps
@@ -39,8 +37,7 @@ pub record Kept : Type 0 where
 abbrev pub kept_of : Settings → Objects → Counts → List ℕ → TwoHeaps → Kept
 kept_of settings objects counts new_words heaps = record {
   settings = settings;
-  cells = objects.cells.entries;
-  objects = objects.live.entries;
+  objects = objects;
   counts = counts;
   new_words = new_words;
   heaps = heaps;
@@ -48,8 +45,8 @@ kept_of settings objects counts new_words heaps = record {
 
 -- the code's state represents the state `f`
 pub record Follows (code : Kept) (f : Followed) : Type 0 where
-  pub cells : (cell : ℕ) → lookup (nat_eq cell) code.cells ≡ f.cells cell
-  pub objects : (number : ℕ) → IsKept code.heaps (lookup (nat_eq number) code.objects) (f.live number)
+  pub cells : (cell : ℕ) → cell_of code.objects cell ≡ f.cells cell
+  pub objects : (number : ℕ) → IsKept code.heaps (entry_of code.objects number) (f.live number)
   pub counts : code.counts ≡ f.counts
   pub new_words : code.new_words ≡ f.new_words
   pub heaps : heaps_of code.heaps ≡ f.heaps
@@ -68,6 +65,7 @@ pub record AreOfRounds (counts : MeshCounts) (rounds : ℕ) : Type 0 where
 -- what always holds of the counts
 pub record IsCounted (code : Kept) : Type 0 where
   pub few : IsFew code.counts
+  pub numbers : code.objects.live.next ≤ code.counts.made
   pub meshes : AreOfRounds code.heaps.mesher.counts code.counts.rounds
 
 -- there are numbers left for one more call and one more object

@@ -1,4 +1,5 @@
 pub use Rattle.mesh_spans.specs.Index
+pub mod Cells
 pub mod ClassCounts
 pub mod ClassLaws
 pub mod Growth
@@ -13,6 +14,7 @@ pub mod EmptyPages
 pub mod Followed
 pub mod Follows
 pub mod HeapChanges
+pub mod LiveObjects
 pub mod Mesher
 pub mod Meshing
 pub mod Objects

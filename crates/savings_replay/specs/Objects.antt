@@ -1,17 +1,29 @@
 -- The live objects and the cells of the code.
-use Rattle.std.specs.Prelude.{◌≡◌, ℕ, Bool, true, false, if◌then◌else◌, nat_eq, is_some, Option, Some, None}
-use Rattle.std.specs.Map.{lookup}
+use Rattle.std.specs.Prelude.{◌≡◌, ℕ, ◌<◌, Bool, true, false, if◌then◌else◌, is_some, Option, Some, None}
+use Rattle.std.specs.Option.{option_map}
+use Rattle.savings_replay.specs.Cells.{Cells, held_in}
 use Rattle.savings_replay.specs.Followed.{with_at}
+use Rattle.savings_replay.specs.LiveObjects.{LiveObjects, at, found}
+use Rattle.savings_replay.specs.declared.cells.Held.{Held}
 use Rattle.savings_replay.specs.declared.objects.Object.{Object}
-use Rattle.savings_replay.specs.declared.objects.Objects.{Objects}
+
+-- what a contract sees of `Objects`: what the cells hold, and the live objects
+pub record Objects : Type 0 where
+  pub cells : Cells
+  pub live : LiveObjects
+
+-- an object that a cell holds has a number that was used, and it is live if it is at its place
+pub record AreRight (cells : Cells) (live : LiveObjects) : Type 0 where
+  pub places : (cell : ℕ) (held : Held) → held_in cells cell ≡ Some held → at held.place held.number live.list ≡ found held.number live.list
+  pub below : (cell : ℕ) (held : Held) → held_in cells cell ≡ Some held → held.number < live.next
 
 -- the number of the object last stored in a cell, if there is one
 abbrev pub cell_of : Objects → ℕ → Option ℕ
-cell_of objects cell = lookup (nat_eq cell) objects.cells.entries
+cell_of objects cell = option_map (λ held. held.number) (held_in objects.cells cell)
 
 -- the live object with this number, if there is one
 abbrev pub entry_of : Objects → ℕ → Option Object
-entry_of objects number = lookup (nat_eq number) objects.live.entries
+entry_of objects number = found number objects.live.list
 
 -- the number, if it is that of a live object
 abbrev pub live_number : Objects → Option ℕ → Option ℕ

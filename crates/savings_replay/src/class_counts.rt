@@ -30,7 +30,8 @@ impl ClassCounts {
         requires { sum self.now.counts < 2 ^ 32 }
         ensures { result ≡ sum self.now.counts }
     {
-        self.counts.iter().sum()
+        let [a, b, c, d, e, f, g, h, i, j] = self.counts;
+        a + b + c + d + e + f + g + h + i + j
     }
 
     /// Adds `by` to the count of a class.

@@ -1,5 +1,5 @@
 //! `TwoHeaps`: the heap that doesn't mesh and the heap that does.
-ghost use Rattle.std.specs.Prelude.{◌≡◌, ℕ, ◌+◌, ◌<◌, ◌-◌, ◌^◌, ◌≤◌, IfOk, OnOk, is_ok, true, false, if◌then◌else◌, sum_by, IsTrue, Some};
+ghost use Rattle.std.specs.Prelude.{◌≡◌, ℕ, ◌+◌, ◌<◌, ◌-◌, ◌^◌, ◌≤◌, IfOk, OnOk, is_ok, is_some, true, false, if◌then◌else◌, sum_by, IsTrue, Some};
 ghost use Rattle.model_heap.specs.Table.{object_count, place_new};
 ghost use Rattle.savings_replay.specs.Placement.{IsFreed, IsMade, table_of};
 ghost use Rattle.savings_replay.specs.Records.{KeepsRecords};
@@ -25,13 +25,22 @@ pub(crate) struct TwoHeaps {
     pub mesher: Mesher,
 }
 
-/// Frees the object in a slot of a span, if there is one.
-fn free_at(placement: &mut Placement, place: (Span, Slot))
-    ensures freed { (serial len : ℕ) → record_at placement.old.index place.0 place.1 ≡ Some (serial, len)
+/// Whether a slot of a span has an object.
+fn has_object(placement: &Placement, place: (Span, Slot)) -> bool
+    ensures { result ≡ is_some (record_at placement.now.index place.0 place.1) }
+{
+    let (span, slot) = place;
+    placement.record(span, slot).is_some()
+}
+
+/// Frees the object in a slot of a span if `is_there`, which must be whether the slot has an object.
+fn free_at(placement: &mut Placement, place: (Span, Slot), is_there: bool)
+    requires { is_there ≡ is_some (record_at placement.old.index place.0 place.1) }
+    ensures { (serial len : ℕ) → record_at placement.old.index place.0 place.1 ≡ Some (serial, len)
         → IsFreed placement.old placement.new place.0 place.1 }
 {
     let (span, slot) = place;
-    if placement.record(span, slot).is_some() {
+    if is_there {
         placement.free(span, slot);
     }
 }
@@ -102,14 +111,17 @@ impl TwoHeaps {
         Ok(Places { without, with })
     }
 
-    /// Frees an object in both heaps, and returns the number of objects that are left in each.
+    /// Frees an object in both heaps, and returns the number of objects that are left in each. Both heaps are read
+    /// before one is changed, because the reads of memory then overlap.
     pub(crate) fn free(&mut self, places: Places) -> u32
         ensures freed { (serial len : ℕ) → IsAt self.old places serial len → IsFreedFrom self.old self.new serial }
         ensures counts { self.new.mesher.counts ≡ self.old.mesher.counts }
         ensures left { result ≡ small_live (heaps_of self.new) }
     {
-        free_at(&mut self.without, places.without);
-        free_at(&mut self.mesher.placement, places.with);
+        let in_without = has_object(&self.without, places.without);
+        let in_with = has_object(&self.mesher.placement, places.with);
+        free_at(&mut self.without, places.without, in_without);
+        free_at(&mut self.mesher.placement, places.with, in_with);
         self.without.totals().objects
     }
 

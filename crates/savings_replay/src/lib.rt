@@ -8,12 +8,14 @@
 #![tactic(auto)]
 
 mod calls;
+mod cells;
 mod class_counts;
 pub mod class_laws;
 mod counts;
 mod growth;
 mod heaps;
 pub mod laws;
+mod live;
 mod meshed;
 mod meshing;
 mod objects;

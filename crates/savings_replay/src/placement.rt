@@ -167,7 +167,7 @@ impl Placement {
         Ok((span, slot))
     }
 
-    /// Whether a `new` of `len` bytes finds room: an open group of its class, or virtual pages left for a new span.
+    /// Whether a `new` of `len` bytes finds room: virtual pages left for a new span, or an open group of its class.
     ///
     /// The answer is the same for every word and every serial. Even if there is room, `new` fails if an allocation for
     /// a new span fails.
@@ -179,7 +179,7 @@ impl Placement {
         let Ok(class) = class_of(len) else {
             return false;
         };
-        self.spans.open_slot(class, 0).is_some() || self.has_span_room(class)
+        self.has_span_room(class) || self.spans.open_slot(class, 0).is_some()
     }
 
     /// Whether virtual pages are left for a new span of the class.

@@ -178,9 +178,9 @@ impl Savings {
         ensures unchanged { IfOk result (λ taken. taken ≢ Made → self.new ≡ self.old) }
         ensures settings { self.new.settings ≡ self.old.settings }
     {
-        self.objects
-            .add(cell, self.counts.made, Object::Large(len))?;
+        let number = self.counts.made;
         self.counts = self.counts.large_new(len);
+        self.objects.add(cell, number, Object::Large(len))?;
         Ok(Taken::Made)
     }
 
@@ -199,10 +199,10 @@ impl Savings {
         }
         let word = draw_new(self.settings.words, &mut self.new_words);
         let places = self.heaps.new(len, word)?;
-        self.objects
-            .add(cell, self.counts.made, Object::Small(places))?;
         let live = self.heaps.without.totals().objects;
+        let number = self.counts.made;
         self.counts = self.counts.small_new(class, live);
+        self.objects.add(cell, number, Object::Small(places))?;
         Ok(Taken::Made)
     }
 

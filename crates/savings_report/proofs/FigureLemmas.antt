@@ -7,7 +7,7 @@ use Rattle.std.proofs.lemmas.Nat.{div-add-mod', div-mul-add, mod_below}
 use Rattle.std.proofs.Math.ListN.{get_or-map}
 use Rattle.std.proofs.Math.Nat.{add-mul}
 use Rattle.savings_report.specs.FigureSamples.{rounded, mean, mean_of, peak, last, total, of_class, live_pages, all_with, all_without, row_by, AreFew}
-use Rattle.savings_report.specs.Figures.{IsLevel, IsLevelIn, IsColumn, no_sample, last_sample}
+use Rattle.savings_report.specs.Figures.{IsLevel, IsLevelIn, IsColumn, class_sum, no_sample, last_sample}
 use Rattle.savings_report.specs.declared.table.samples.Sample.{Sample}
 use Rattle.savings_report.specs.declared.table.levels.Level.{Level}
 use Rattle.savings_report.specs.declared.table.levels.Column.{Column}
@@ -61,7 +61,7 @@ level_in_push old new most count n p s small h =
 -- one more sample
 pub column_push : (old new : Column) (samples : List (List ℕ)) (pages : List ℕ)
     → ((ns : List ℕ) → IsLevel old.total ns → IsLevel new.total (ns ++ sum pages ∷ []))
-    → ((k : ℕ) → k < 10 → slice_index new.sums k ≡ slice_index old.sums k + slice_index pages k)
+    → ((k : ℕ) → k < 10 → class_sum new k ≡ class_sum old k + slice_index pages k)
     → IsColumn old samples → IsColumn new (samples ++ pages ∷ [])
 column_push old new samples pages t s h =
     record {
@@ -153,8 +153,8 @@ level_mean level f samples count n h many e =
 
 -- the mean of a class, from its sum
 pub class_mean : (column : Column) (f : Sample → List ℕ) (samples : List Sample) (k count n : ℕ) → k < 10 → IsColumn column (map f samples)
-    → count ≡ length samples → n ≡ mean_of (slice_index column.sums k) count → n ≡ mean (map (λ s. of_class k (f s)) samples)
+    → count ≡ length samples → n ≡ mean_of (class_sum column k) count → n ≡ mean (map (λ s. of_class k (f s)) samples)
 class_mean column f samples k count n below h many e =
-    let whole : slice_index column.sums k ≡ sum (map (λ s. of_class k (f s)) samples) = h.sums_are k below ∙ ap sum (map_twice f (of_class k) samples) in
+    let whole : class_sum column k ≡ sum (map (λ s. of_class k (f s)) samples) = h.sums_are k below ∙ ap sum (map_twice f (of_class k) samples) in
     let length_is : count ≡ length (map (λ s. of_class k (f s)) samples) = many ∙ sym (length-map samples (λ s. of_class k (f s))) in
     e ∙ ap (λ (m : ℕ). mean_of m count) whole ∙ ap (mean_of (sum (map (λ s. of_class k (f s)) samples))) length_is

@@ -1,26 +1,18 @@
 -- The first moment that is no less than any other.
-use Rattle.std.proofs.Common.{◌≡◌, ℕ, suc, ◌+◌, ◌<◌, Bool, true, false, ◌&&◌, List, [], ◌∷◌, ◌++◌, length, Option, Some, None, refl, sym, ap, ◌∙◌, subst, arith, append_assoc, add-zero, inl, inr, ◌≤◌}
+use Rattle.std.proofs.Common.{◌≡◌, ℕ, suc, ◌+◌, ◌<◌, Bool, true, false, ◌&&◌, List, [], ◌∷◌, ◌++◌, length, Option, Some, None, refl, sym, ap, ◌∙◌, subst, arith, add-zero, inl, inr}
 use Rattle.std.specs.Prelude.{nat_le}
 use Rattle.std.specs.List.{AllByRecursion, find, list_all}
-use Rattle.std.proofs.lemmas.Bool.{le-leb, leb-true}
+use Rattle.std.proofs.lemmas.Bool.{le-leb}
 use Rattle.std.proofs.lemmas.Bool.Decides.{leb_tells}
 use Rattle.std.proofs.lemmas.List.Folds.{list_all-append}
 use Rattle.savings_report.specs.FigureSamples.{first_best, lives_no_less, moment, moments_from, saves_no_less}
-use Rattle.savings_report.specs.Figures.{IsFirstBest, IsMost}
+use Rattle.savings_report.specs.Figures.{IsMost}
 use Rattle.savings_report.specs.declared.table.moments.Moment.{Moment}
 use Rattle.savings_report.specs.declared.table.samples.Sample.{Sample}
 
--- any two moments can be compared, and what is no less than a greater one is no less than a smaller one
-pub record IsComparison (no_less : Moment → Moment → Bool) : Type 0 where
-  pub total : (a b : Moment) → no_less a b ≡ false → no_less b a ≡ true
-  pub through : (a b c : Moment) → no_less a b ≡ true → no_less b c ≡ true → no_less a c ≡ true
-
-no_leb : (a b : ℕ) → b < a → nat_le a b ≡ false
-no_leb a b less =
-    elim (leb_tells a b) [
-      | inl told ↦ let below = told.1 in absurd (omega arith)
-      | inr told ↦ told.0
-    ]
+-- any two moments can be compared
+abbrev pub IsComparison : (Moment → Moment → Bool) → Type 0
+IsComparison no_less = (a b : Moment) → no_less a b ≡ false → no_less b a ≡ true
 
 leb_no : (a b : ℕ) → nat_le a b ≡ false → b < a
 leb_no a b e =
@@ -29,44 +21,14 @@ leb_no a b e =
       | inr told ↦ told.1
     ]
 
-pub saves_less : (a b : Moment) → a.without + b.with < b.without + a.with → saves_no_less a b ≡ false
-saves_less a b less = no_leb (b.without + a.with) (a.without + b.with) less
-
-pub saves_as_much : (a b : Moment) → b.without + a.with ≤ a.without + b.with → saves_no_less a b ≡ true
-saves_as_much a b more = le-leb (b.without + a.with) (a.without + b.with) more
-
-pub lives_less : (a b : Moment) → a.live_bytes < b.live_bytes → lives_no_less a b ≡ false
-lives_less a b less = no_leb b.live_bytes a.live_bytes less
-
-pub lives_as_much : (a b : Moment) → b.live_bytes ≤ a.live_bytes → lives_no_less a b ≡ true
-lives_as_much a b more = le-leb b.live_bytes a.live_bytes more
-
 pub saves_comparison : IsComparison saves_no_less
-saves_comparison =
-    record {
-      total = λ a b less.
-          let below : a.without + b.with < b.without + a.with = leb_no (b.without + a.with) (a.without + b.with) less in
-          saves_as_much b a (omega arith);
-      through = λ a b c more most.
-          let first : b.without + a.with ≤ a.without + b.with = leb-true (b.without + a.with) (a.without + b.with) more in
-          let second : c.without + b.with ≤ b.without + c.with = leb-true (c.without + b.with) (b.without + c.with) most in
-          saves_as_much a c (omega arith);
-    }
+saves_comparison a b less =
+    let below : a.without + b.with < b.without + a.with = leb_no (b.without + a.with) (a.without + b.with) less in
+    le-leb (a.without + b.with) (b.without + a.with) (omega arith)
 
 pub lives_comparison : IsComparison lives_no_less
-lives_comparison =
-    record {
-      total = λ a b less.
-          let below : a.live_bytes < b.live_bytes = leb_no b.live_bytes a.live_bytes less in lives_as_much b a (omega arith);
-      through = λ a b c more most.
-          let first : b.live_bytes ≤ a.live_bytes = leb-true b.live_bytes a.live_bytes more in
-          let second : c.live_bytes ≤ b.live_bytes = leb-true c.live_bytes b.live_bytes most in
-          lives_as_much a c (omega arith);
-    }
-
-all_push : {X : Type 0} (P : X → Type 0) (xs : List X) (x : X) → AllByRecursion P xs → P x → AllByRecursion P (xs ++ x ∷ [])
-all_push P [] x h p = (p, tt)
-all_push P (y ∷ xs) x h p = (h.0, all_push P xs x h.1 p)
+lives_comparison a b less =
+    let below : a.live_bytes < b.live_bytes = leb_no b.live_bytes a.live_bytes less in le-leb a.live_bytes b.live_bytes (omega arith)
 
 all_weaker : {X : Type 0} (P Q : X → Type 0) → ((x : X) → P x → Q x) → (xs : List X) → AllByRecursion P xs → AllByRecursion Q xs
 all_weaker P Q f [] h = tt
@@ -98,16 +60,12 @@ true_at_last : (b : Bool) → (b ≡ false → b ≡ true) → b ≡ true
 true_at_last true f = refl
 true_at_last false f = f refl
 
-refuted : (b c : Bool) → (b ≡ true → c ≡ true) → c ≡ false → b ≡ false
-refuted true c f e = sym (f refl) ∙ e
-refuted false c f e = refl
-
 pub found_best : (no_less : Moment → Moment → Bool) → IsComparison no_less → (o : Option Moment) (moments : List Moment) → IsMost no_less o moments
     → first_best no_less moments ≡ o
 found_best no_less compares None moments h = rw h refl
 found_best no_less compares (Some best) moments (before, after, h) =
-    let weak : (m : Moment) → no_less m best ≡ false → no_less best m ≡ true = λ m l. compares.total m best l in
-    let itself : no_less best best ≡ true = true_at_last (no_less best best) (compares.total best best) in
+    let weak : (m : Moment) → no_less m best ≡ false → no_less best m ≡ true = λ m l. compares m best l in
+    let itself : no_less best best ≡ true = true_at_last (no_less best best) (compares best best) in
     let passes : list_all (no_less best) (before ++ best ∷ after) ≡ true =
     all_pass _ _ (all_joined (λ (m : Moment). no_less best m ≡ true) before (best ∷ after)
     (all_weaker (λ (m : Moment). no_less m best ≡ false) (λ (m : Moment). no_less best m ≡ true) weak before h.earlier) (itself, h.later)) in
@@ -116,34 +74,6 @@ found_best no_less compares (Some best) moments (before, after, h) =
     rw h.split
     (found_behind (λ (a : Moment). list_all (no_less a) (before ++ best ∷ after)) before after best
     (all_weaker (λ (m : Moment). no_less m best ≡ false) (λ (m : Moment). list_all (no_less m) (before ++ best ∷ after) ≡ false) fails before h.earlier) passes)
-
--- one more moment, which is not greater
-pub best_kept : (no_less : Moment → Moment → Bool) (best next : Moment) (moments before after : List Moment) → no_less best next ≡ true
-    → IsFirstBest no_less best moments before after → IsFirstBest no_less best (moments ++ next ∷ []) before (after ++ next ∷ [])
-best_kept no_less best next moments before after less h =
-    record {
-      split = rw h.split (append_assoc before (best ∷ after) (next ∷ []));
-      earlier = h.earlier;
-      later = all_push (λ (m : Moment). no_less best m ≡ true) after next h.later less;
-    }
-
--- one more moment, which is greater
-pub best_taken : (no_less : Moment → Moment → Bool) → IsComparison no_less → (best next : Moment) (moments before after : List Moment)
-    → no_less best next ≡ false → IsFirstBest no_less best moments before after → IsFirstBest no_less next (moments ++ next ∷ []) moments []
-best_taken no_less compares best next moments before after less h =
-    let first : (m : Moment) → no_less m best ≡ false → no_less m next ≡ false =
-    λ m l. refuted (no_less m next) (no_less m best) (λ more. compares.through m next best more (compares.total best next less)) l in
-    let later : (m : Moment) → no_less best m ≡ true → no_less m next ≡ false =
-    λ m l. refuted (no_less m next) (no_less best next) (λ more. compares.through best m next l more) less in
-    record {
-      split = refl;
-      earlier =
-          rw h.split
-          (all_joined (λ (m : Moment). no_less m next ≡ false) before (best ∷ after)
-          (all_weaker (λ (m : Moment). no_less m best ≡ false) (λ (m : Moment). no_less m next ≡ false) first before h.earlier)
-          (less, all_weaker (λ (m : Moment). no_less best m ≡ true) (λ (m : Moment). no_less m next ≡ false) later after h.later));
-      later = tt;
-    }
 
 pub moments_push : (first : ℕ) (samples : List Sample) (s : Sample)
     → moments_from first (samples ++ s ∷ []) ≡ moments_from first samples ++ moment (first + length samples) s ∷ []

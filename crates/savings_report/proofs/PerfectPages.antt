@@ -1,9 +1,7 @@
 -- Perfect packing, class by class.
-use Rattle.std.proofs.Common.{◌≡◌, ℕ, zero, suc, ◌+◌, ◌*◌, ◌<◌, ◌≤◌, List, [], ◌∷◌, length, map, get_or, slice_index, slice_set, ap, inl, inr, refl, sym, subst, ◌∙◌, arith}
-use Rattle.std.proofs.lemmas.Bool.Decides.{eqb_tells}
+use Rattle.std.proofs.Common.{◌≡◌, ℕ, zero, suc, ◌*◌, ◌<◌, ◌≤◌, List, [], ◌∷◌, length, map, get_or, slice_index, ap, refl, sym, subst, ◌∙◌, arith}
 use Rattle.std.specs.Int.{div_ceil}
 use Rattle.std.proofs.lemmas.Grind.{div_ceil_times, same_number_lists}
-use Rattle.std.proofs.lemmas.List.{get_or-set_other, get_or-set_same}
 use Rattle.std.specs.List.{All}
 use Rattle.model_heap.specs.Table.{Table}
 use Rattle.model_words.specs.Classes.{Row, table}
@@ -13,18 +11,6 @@ use Rattle.savings_replay.specs.ClassLaws.{BytesFitPages, FitsPages, ObjectsFitP
 use Rattle.savings_replay.specs.Alike.{ClassesAreAlike, HeapsAreSound}
 use Rattle.savings_report.specs.Laws.{PerfectIsLeast}
 use Rattle.savings_report.specs.Samples.{held_by_class, live_bytes, perfect_pages, sample_of}
-
--- one place more
-pub next_needed : (pages classes objects : List ℕ) (k n : ℕ) → k < length pages → n ≡ pages_needed (slice_index classes k) (slice_index objects k)
-    → ((j : ℕ) → j < k → slice_index pages j ≡ pages_needed (slice_index classes j) (slice_index objects j))
-    → (j : ℕ) → j < k + 1 → slice_index (slice_set pages k n) j ≡ pages_needed (slice_index classes j) (slice_index objects j)
-next_needed pages classes objects k n room is before j below =
-    elim (eqb_tells j k) [
-      | inl same ↦ let at : ℕ → Type 0 = λ i. slice_index (slice_set pages k n) i ≡ pages_needed (slice_index classes i) (slice_index objects i) in
-          subst at (sym same.1) (get_or-set_same pages k n 0 room ∙ is)
-      | inr other ↦ let apart = other.1 in
-          get_or-set_other pages k j n 0 apart ∙ before j (omega (arith, apart, below))
-    ]
 
 -- at a place of the table
 row_needed : (t : Table) (rows : List Row) (k : ℕ) → k < length rows

@@ -1,20 +1,10 @@
 -- The least and the greatest of two lists of numbers.
-use Rattle.std.proofs.Common.{◌≡◌, ℕ, ◌*◌, ◌<◌, ◌≤◌, ◌^◌, min, max, List, [], ◌∷◌, ◌++◌, length, map, sum, refl, sym, ap, ◌∙◌, arith}
-use Rattle.std.specs.List.{All}
+use Rattle.std.proofs.Common.{◌≡◌, ℕ, ◌<◌, min, max, List, [], ◌∷◌, ◌++◌, length, map, refl, sym, ap, ◌∙◌, arith}
 use Rattle.std.proofs.lemmas.List.{map-append, length-map}
-use Rattle.std.proofs.lemmas.List.Sums.{sum_by-le}
-use Rattle.savings_report.specs.FigureSamples.{peak, AreFew}
+use Rattle.savings_report.specs.FigureSamples.{peak}
 use Rattle.savings_report.specs.Intervals.{last_reading, last_with, least, least_with, span_of}
 use Rattle.savings_report.specs.declared.plot.readings.Reading.{Reading}
 use Rattle.savings_report.specs.declared.plot.spans.Span.{Span}
-
--- the total of ten classes
-pub few_total : (pages : List ℕ) → length pages ≡ 10 → AreFew pages → sum pages < 2 ^ 32
-few_total pages ten few =
-    let each : All (λ (n : ℕ). n ≤ 131072) pages = grind (arith, few) in
-    let bound : sum pages ≤ length pages * 131072 = sum_by-le (λ (n : ℕ). n) 131072 pages each in
-    let ten_times : length pages * 131072 ≡ 1310720 = ap (λ (n : ℕ). n * 131072) ten in
-    omega arith
 
 pub least_with_min : (m n : ℕ) (ns : List ℕ) → least_with (min m n) ns ≡ min m (least_with n ns)
 least_with_min m n [] = refl

@@ -1,5 +1,5 @@
 -- What `Figures` gathered of samples.
-use Rattle.std.specs.Prelude.{◌≡◌, ℕ, ◌-◌, ◌*◌, ◌^◌, ◌<◌, ◌≤◌, Bool, true, false, List, [], ◌∷◌, ◌++◌, length, map, slice_index, slice_index_or, replicate, sum, Option, Some, None}
+use Rattle.std.specs.Prelude.{◌≡◌, ℕ, ◌+◌, ◌-◌, ◌*◌, ◌^◌, ◌<◌, ◌≤◌, Bool, true, false, List, [], ◌∷◌, ◌++◌, length, map, slice_index, slice_index_or, replicate, sum, Option, Some, None}
 use Rattle.std.specs.List.{AllByRecursion}
 use Rattle.savings_report.specs.FigureSamples.{measured, first_call, total, of_class, live_pages, all_without, all_with, peak, moments_from, saves_no_less, lives_no_less}
 use Rattle.savings_report.specs.declared.table.samples.Sample.{Sample}
@@ -22,10 +22,14 @@ pub record IsLevel (level : Level) (ns : List ℕ) : Type 0 where
   pub peak_is : level.peak ≡ peak ns
   pub sum_is : level.sum ≡ sum ns
 
+-- the sum of a class: the sum that was kept, and the pages of the last samples, which are equal
+abbrev pub class_sum : Column → ℕ → ℕ
+class_sum column k = slice_index column.sums k + column.repeats * slice_index column.pages k
+
 -- of a list of pages by class, the column has the level of the totals, and the sum of each class
 pub record IsColumn (column : Column) (pages : List (List ℕ)) : Type 0 where
   pub total_is : IsLevel column.total (map total pages)
-  pub sums_are : (k : ℕ) → k < 10 → slice_index column.sums k ≡ sum (map (of_class k) pages)
+  pub sums_are : (k : ℕ) → k < 10 → class_sum column k ≡ sum (map (of_class k) pages)
 
 -- the levels of these samples' numbers that are not divided into classes
 pub record AreLevels (levels : Levels) (samples : List Sample) : Type 0 where
@@ -87,10 +91,12 @@ pub record IsLevelIn (level : Level) (most count : ℕ) : Type 0 where
   pub sum_in : level.sum ≤ count * most
 
 -- the level of a column of `count` samples has at most 1,310,720 pages for each sample, and the sum of each class is at
--- most 131,072 pages for each sample
+-- most 131,072 pages for each sample. The last samples that are equal are some of them, and their total is kept
 pub record IsColumnIn (column : Column) (count : ℕ) : Type 0 where
   pub total_in : IsLevelIn column.total 1310720 count
-  pub sums_in : (k : ℕ) → k < 10 → slice_index column.sums k ≤ count * 131072
+  pub sums_in : (k : ℕ) → k < 10 → class_sum column k ≤ count * 131072
+  pub repeats_in : column.repeats ≤ count
+  pub all_is : column.all ≡ sum column.pages
 
 -- the levels of `count` samples' numbers are within bounds
 pub record AreLevelsIn (levels : Levels) (count : ℕ) : Type 0 where

@@ -7,6 +7,7 @@ pub mod Gathered
 pub mod Inputs
 pub mod Intervals
 pub mod Laws
+pub mod Perfect
 pub mod PlotCurves
 pub mod Reports
 pub mod Runs

@@ -8,7 +8,7 @@ ghost use Rattle.savings_report.specs.declared.options.SavingsOptions.{SavingsOp
 
 use crate::csv::csv_text;
 use crate::options::{Form, SavingsOptions};
-use crate::plot::Curves;
+use crate::plot::{Caption, Curves};
 use crate::table::{Counts, Figures, Sample};
 use std::alloc::{AllocError, Global};
 
@@ -60,14 +60,19 @@ impl Gathered {
     }
 
     /// Returns the text of the table, of the plot, or of the comma-separated values. Only a table shows `counts`, the
-    /// counts of the whole run.
-    pub(crate) fn text(&self, alloc: Global, counts: &Counts) -> Result<Vec<u8>, AllocError>
+    /// counts of the whole run, and only a plot the caption.
+    pub(crate) fn text(
+        &self,
+        alloc: Global,
+        caption: &Caption,
+        counts: &Counts,
+    ) -> Result<Vec<u8>, AllocError>
         ensures { (options : SavingsOptions) (samples : List Sample) → IsOf self.now options samples
             → IfOk result (λ text. IsShownAs options.form options.window samples counts.now text.items) }
     {
         match self {
             Gathered::Table(figures) => figures.text(alloc, counts),
-            Gathered::Plot(curves) => curves.picture(alloc),
+            Gathered::Plot(curves) => curves.picture(alloc, caption),
             Gathered::Csv(curves) => csv_text(alloc, curves),
         }
     }

@@ -16,7 +16,8 @@ use history_reading::HistoryInput;
 use std::alloc::Global;
 use text_devices::Source;
 
-/// Replays the recorded history that is read from `input` on two heaps, and reports what meshing saves.
+/// Replays the recorded history that is read from `input` on two heaps, and reports what meshing saves. A plot has the
+/// name of the file at `path`, which is `-` for standard input.
 ///
 /// The input is read to its end, or until a heap has too few virtual pages left for a `new`. In the second case the
 /// report covers the calls before that `new`, and `used_up_at` is the number of that call. The input after that call is
@@ -27,6 +28,7 @@ use text_devices::Source;
 /// is the one whose line comes first in the input. Write is never returned.
 pub fn report<I: Source>(
     alloc: Global,
+    path: &str,
     input: &mut I,
     options: &SavingsOptions,
 ) -> Result<Report, SavingsError>
@@ -43,7 +45,7 @@ pub fn report<I: Source>(
     let mut run = Run::new(alloc, options)?;
     let used_up_at = follow(&mut history, &mut run, input)?;
     Ok(Report {
-        text: run.text(alloc)?,
+        text: run.text(alloc, path)?,
         used_up_at,
     })
 }

@@ -1,5 +1,6 @@
 //! A plot of the pages of two heaps, one of which meshes, over the calls of a recorded program.
 mod axes;
+mod captions;
 mod courses;
 mod curves;
 mod ends;
@@ -13,6 +14,7 @@ mod spans;
 mod style;
 mod words;
 
+pub use captions::Caption;
 pub use courses::Course;
 pub use curves::Curves;
 pub use spans::Interval;

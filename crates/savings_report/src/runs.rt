@@ -14,6 +14,8 @@ ghost use Rattle.text_devices.specs.declared.faults.ReplayError.{ReplayError};
 use crate::errors::SavingsError;
 use crate::gathered::Gathered;
 use crate::options::SavingsOptions;
+use crate::perfect::Perfect;
+use crate::plot::Caption;
 use crate::samples::{counts_of, sample_of};
 use model_words::{FaultKind, TextFault};
 use savings_replay::{Call, RecordedEntry, Savings, Taken, call_of};
@@ -24,6 +26,7 @@ use text_devices::ReplayError;
 #[derive(Drop)]
 pub(crate) struct Run {
     savings: Savings,
+    perfect: Perfect,
     gathered: Gathered,
 }
 
@@ -34,6 +37,7 @@ impl Run {
     {
         Ok(Run {
             savings: Savings::new(alloc, options.settings)?,
+            perfect: Perfect::none(),
             gathered: Gathered::new(alloc, options)?,
         })
     }
@@ -63,7 +67,7 @@ impl Run {
     {
         let taken = self.savings.take(call)?;
         if taken == Taken::Made {
-            let sample = sample_of(&self.savings);
+            let sample = sample_of(&self.savings, &mut self.perfect);
             self.gathered.look(&sample);
         }
         Ok(taken)
@@ -100,12 +104,17 @@ impl Run {
         }
     }
 
-    /// Returns the table or the plot of the calls so far, as text.
-    pub(crate) fn text(&self, alloc: Global) -> Result<Vec<u8>, AllocError>
+    /// Returns the table or the plot of the calls so far, as text. The history is that of the path.
+    pub(crate) fn text(&self, alloc: Global, path: &str) -> Result<Vec<u8>, AllocError>
         ensures { (options : SavingsOptions) (f : Followed) (samples : List Sample) → IsRun self.now options f samples
             → IfOk result (λ text. IsShown options f samples text.items) }
     {
-        self.gathered.text(alloc, &counts_of(&self.savings))
+        let caption = Caption {
+            path,
+            settings: self.savings.settings(),
+        };
+        self.gathered
+            .text(alloc, &caption, &counts_of(&self.savings))
     }
 }
 

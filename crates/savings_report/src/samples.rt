@@ -1,19 +1,17 @@
 //! The sample of both heaps after a call, and the counts of a run.
-ghost use Rattle.std.specs.Prelude.{◌≡◌, ◌≤◌, ◌^◌};
+ghost use Rattle.std.specs.Prelude.{◌≡◌};
 ghost use Rattle.savings_report.specs.FigureSamples.{IsBounded};
-ghost use Rattle.savings_replay.specs.ClassLaws.{FitsPages, pages_needed};
-ghost use Rattle.savings_replay.specs.Placement.{table_of};
 ghost use Rattle.savings_replay.specs.Followed.{Followed};
 ghost use Rattle.savings_replay.specs.Follows.{Follows};
-ghost use Rattle.savings_report.specs.Samples.{counts_of, perfect_pages, sample_of};
+ghost use Rattle.savings_report.specs.Samples.{counts_of, sample_of};
 
+use crate::perfect::Perfect;
 use crate::table::{Counts, Sample};
-use mesh_class::{Class, all_classes};
-use savings_replay::{Placement, Savings};
+use savings_replay::Savings;
 
 /// Returns the sample of both heaps: the pages of each heap, the pages with perfect packing, the live bytes, and the
 /// pages of large objects.
-pub(crate) fn sample_of(savings: &Savings) -> Sample
+pub(crate) fn sample_of(savings: &Savings, perfect: &mut Perfect) -> Sample
     ensures value { (f : Followed) → Follows savings.now f → result ≡ sample_of f }
     ensures bounded { IsBounded result }
 {
@@ -22,7 +20,7 @@ pub(crate) fn sample_of(savings: &Savings) -> Sample
     Sample {
         without: *without.held_pages_by_class(),
         with: *with.held_pages_by_class(),
-        perfect: perfect_pages(without),
+        perfect: perfect.of(without),
         live_bytes: u64::from(without.totals().bytes),
         large_pages: savings.counts().large_pages,
         empty_without: without.empty_pages(),
@@ -48,28 +46,4 @@ pub(crate) fn counts_of(savings: &Savings) -> Counts
         virtual_pages: savings.with().used_pages(),
         used,
     }
-}
-
-/// Returns for each class the number of pages in the fewest spans that can contain the heap's objects of the class.
-fn perfect_pages(placement: &Placement) -> [u32; 10]
-    ensures value { result ≡ perfect_pages (table_of placement.now) }
-    ensures fits { FitsPages (table_of placement.now) }
-{
-    placement.sound();
-    let objects = placement.objects_by_class();
-    let classes = all_classes();
-    let mut pages = [0; 10];
-    for k in 0..classes.len() {
-        pages[k] = pages_needed(classes[k], objects[k]);
-    }
-    pages
-}
-
-/// Returns the number of pages in the fewest spans of a class that can contain `objects` objects.
-fn pages_needed(class: Class, objects: u32) -> u32
-    requires { objects ≤ 2 ^ 24 }
-    ensures { result ≡ pages_needed class objects }
-{
-    let slots = class.slots();
-    (objects + slots - 1) / slots * class.pages()
 }

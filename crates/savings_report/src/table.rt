@@ -10,4 +10,7 @@ mod samples;
 mod words;
 
 pub use figures::Figures;
-pub use samples::{Counts, Sample, Window};
+pub use levels::total_pages;
+pub use moments::{Moment, keep_most_saved};
+pub use rounding::whole_pages;
+pub use samples::{CLASSES, Counts, Sample, Window};

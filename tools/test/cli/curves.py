@@ -116,6 +116,18 @@ def mark_of(picture):
     return found and re.sub(r"[,\s]+", " ", found.replace(",", ""))
 
 
+def caption_faults(picture, name, words, rows):
+    """How the words above a plot differ from the name of the history, the measured calls and the options."""
+    given = {"--share": 8, "--members": 8, "--probe": 64, "--seed": 1, "--from": 1} | dict(zip(words[::2], words[1::2]))
+    rounds = "--every" if "--every" in given else "--share"
+    options = " ".join(f"{option} {given[option]}" for option in (rounds, "--members", "--probe", "--seed"))
+    wanted = [f"; {options}"]
+    if rows:
+        wanted.append(f"calls {given['--from']:,} to {rows[-1]['call']:,} of {name}")
+    texts = [text.text or "" for text in xml.etree.ElementTree.fromstring(picture).iter(f"{SVG}text")]
+    return [f"no words of the plot end with {end!r}" for end in wanted if not any(text.endswith(end) for text in texts)]
+
+
 def mark_in(table):
     """The words of the mark that a plot should have, from its table: without the share and the live bytes."""
     line = re.search(r"^most saved  (\d+ of \d+ pages) \([^)]*\) (at call \d+)", table.decode(), re.MULTILINE)

@@ -6,7 +6,7 @@ import sys
 import xml.dom.minidom
 import xml.parsers.expat
 
-from cli.curves import curve_faults, mark_in, mark_of, row_faults, rows_of
+from cli.curves import caption_faults, curve_faults, mark_in, mark_of, row_faults, rows_of
 from cli.suite import NOTHING, SOME_TEXT, Explained, execute
 
 FILES = pathlib.Path("histories/savings")
@@ -163,6 +163,10 @@ def compare_curves(suite, history, *words):
         return None
     first_call = words[words.index("--from") + 1] if "--from" in words else 1
     suite.report(name, row_faults(rows) + curve_faults(plotted.output, rows, first_call))
+    suite.report(
+        name.replace("the curves", "the caption"),
+        caption_faults(plotted.output, pathlib.Path(history).name, words, rows),
+    )
     table = suite.run("savings", history, *words)
     wanted, mark = mark_in(table.output), mark_of(plotted.output)
     faults = [] if mark == wanted else [f"the plot has {mark!r}, and the table {wanted!r}"]

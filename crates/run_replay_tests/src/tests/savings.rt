@@ -41,7 +41,7 @@ fn reported<I: Source + Drop>(alloc: Global, input: I, form: FiguresForm) -> Ran
     requires { I.has_failed input ≡ false }
 {
     let mut devices = in_memory(alloc, input);
-    let status = savings_run(alloc, &args(form), &mut devices);
+    let status = savings_run(alloc, "-", &args(form), &mut devices);
     Ran::of(status, devices)
 }
 

@@ -18,10 +18,14 @@ impl Placement {
     /// Removes each group that has no object, and frees the group's physical pages. The group's virtual pages are never
     /// reused.
     ///
-    /// The call visits every number that a group can have.
+    /// If some group has no object, the call visits every number that a group can have.
     pub fn sweep_empty(&mut self)
         ensures { IsSwept self.old self.new }
     {
+        if self.empty_pages() == 0 {
+            self.sound();
+            return;
+        }
         for n in 0..self.next_page {
             self.sound();
             self.sweep(n);

@@ -1,8 +1,8 @@
 //! The intervals of the measured calls, with the numbers of the calls.
 ghost use Rattle.std.specs.Prelude.{◌≡◌, ◌+◌, min};
 
-use crate::plot::readings::Mark;
 use crate::plot::spans::Interval;
+use crate::table::Moment;
 
 /// The intervals of the measured calls, with the numbers of the calls, which are counted from 1.
 #[derive(Clone, Copy)]
@@ -15,7 +15,7 @@ pub struct Course<'a> {
     /// The number of the last measured call, or `before` if no call was measured.
     pub last: u32,
     /// The first measured call after which meshing saves the most pages, or `None` if no call was measured.
-    pub most_saved: Option<Mark>,
+    pub most_saved: Option<Moment>,
 }
 
 impl Course<'_> {

@@ -7,11 +7,12 @@ ghost use Rattle.savings_report.specs.FigureSamples.{IsBounded};
 ghost use Rattle.savings_report.specs.Intervals.{IsOf};
 ghost use Rattle.savings_report.specs.PlotCurves.{IsPlot};
 
+use crate::plot::captions::Caption;
 use crate::plot::courses::Course;
 use crate::plot::intervals::Intervals;
 use crate::plot::plotted::draw_plot;
-use crate::plot::readings::{Mark, Reading};
-use crate::table::{Sample, Window};
+use crate::plot::readings::Reading;
+use crate::table::{Moment, Sample, Window, keep_most_saved};
 use draw_svg::Text;
 use std::alloc::{AllocError, Global};
 use std::marker::Model;
@@ -27,7 +28,7 @@ pub struct Curves {
     // The least and greatest values of the measured samples, by interval.
     intervals: Intervals,
     // The first measured call after which meshing saves the most pages.
-    most_saved: Option<Mark>,
+    most_saved: Option<Moment>,
 }
 
 impl Model for Curves {
@@ -82,19 +83,26 @@ impl Curves {
         self.calls += 1;
         if self.window.from <= self.calls && self.calls <= self.window.to {
             let reading = Reading::of(sample);
-            let call = self.calls;
-            self.most_saved = Some(Mark::more_saved(self.most_saved, Mark { call, reading }));
+            let moment = Moment {
+                call: self.calls,
+                without: reading.without,
+                with: reading.with,
+                perfect: reading.perfect,
+                live_bytes: sample.live_bytes,
+                large_pages: sample.large_pages,
+            };
+            keep_most_saved(&mut self.most_saved, &moment);
             self.intervals.add(reading);
         }
     }
 
-    /// Returns the plot as an SVG file. Returns an error if an allocation fails.
-    pub fn picture(&self, alloc: Global) -> Result<Vec<u8>, AllocError>
+    /// Returns the plot as an SVG file, with the caption above it. Returns an error if an allocation fails.
+    pub fn picture(&self, alloc: Global, caption: &Caption) -> Result<Vec<u8>, AllocError>
         ensures { (window : Window) (samples : List Sample) → IsOf self.now window samples
             → IfOk result (λ file. IsPlot (series_of window samples) file.items) }
     {
         let mut text = Text::new(alloc);
-        draw_plot(&mut text, &self.course());
+        draw_plot(&mut text, &self.course(), caption);
         text.finish()
     }
 

@@ -6,6 +6,7 @@ use crate::plot::lines::{Curve, PLOT, across, height};
 use crate::plot::readings::Reading;
 use crate::plot::style::NOTE;
 use crate::plot::words::{spell_mib, spell_number, write};
+use crate::table::Moment;
 use draw_svg::{Anchor, Look, Shapes, Way};
 
 /// The distance between the baselines of two values.
@@ -86,36 +87,30 @@ pub fn draw_most_saved(shapes: &mut Shapes, course: &Course, top: u32)
     requires before { course.now.before < 4294967295 }
     requires top { 0 < top }
 {
-    if let Some(mark) = course.most_saved {
-        if mark.reading.with < mark.reading.without {
-            draw_saved(
-                shapes,
-                across(course, mark.call),
-                mark.call,
-                &mark.reading,
-                top,
-            );
+    if let Some(moment) = course.most_saved {
+        if moment.with < moment.without {
+            draw_saved(shapes, across(course, moment.call), &moment, top);
         }
     }
 }
 
 /// Draws the mark of a call: a line from one heap's curve to the other, and the pages that are saved, above the plot.
-fn draw_saved(shapes: &mut Shapes, x: u32, call: u32, reading: &Reading, top: u32)
+fn draw_saved(shapes: &mut Shapes, x: u32, moment: &Moment, top: u32)
     requires { 0 < top }
 {
     shapes.point(Way::Move, x, PLOT.y);
-    shapes.point(Way::Line, x, height(top, reading.without));
+    shapes.point(Way::Line, x, height(top, moment.without));
     shapes.path(Look::of("guide"));
-    shapes.point(Way::Move, x, height(top, reading.without));
-    shapes.point(Way::Line, x, height(top, reading.with));
+    shapes.point(Way::Move, x, height(top, moment.without));
+    shapes.point(Way::Line, x, height(top, moment.with));
     shapes.path(Look::of("saved"));
     let words = shapes.spell(b"most saved ", "", &[]);
-    let saved = reading.without.saturating_sub(reading.with);
+    let saved = moment.without.saturating_sub(moment.with);
     let words = spell_number(shapes, words, saved);
     let words = shapes.spell(words.as_slice(), " of ", &[]);
-    let words = spell_number(shapes, words, reading.without);
+    let words = spell_number(shapes, words, moment.without);
     let words = shapes.spell(words.as_slice(), " pages at call ", &[]);
-    let words = spell_number(shapes, words, call);
+    let words = spell_number(shapes, words, moment.call);
     let anchor = if x < PLOT.middle() {
         Anchor::Start
     } else {

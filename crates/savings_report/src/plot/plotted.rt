@@ -6,13 +6,14 @@ ghost use Rattle.savings_report.specs.Courses.{series_in};
 ghost use Rattle.savings_report.specs.PlotCurves.{IsPlot, curve_text, curves_text};
 
 use crate::plot::axes::{draw_calls, draw_pages};
+use crate::plot::captions::{Caption, TITLE, draw_caption};
 use crate::plot::courses::Course;
 use crate::plot::ends::{draw_ends, draw_most_saved};
 use crate::plot::legend::draw_legend;
 use crate::plot::lines::{Curve, PLOT, curve_points, most_pages};
 use crate::plot::scale::Axis;
-use crate::plot::style::{DARK_RULES, HEADING, NOTE, RULES};
-use crate::plot::words::{spell_number, write};
+use crate::plot::style::{DARK_RULES, NOTE, RULES};
+use crate::plot::words::write;
 use draw_svg::{Anchor, Area, Look, Shape, Shapes, Text};
 
 /// The width of the picture.
@@ -20,30 +21,27 @@ const WIDTH: u32 = 10_400;
 
 const HEIGHT: u32 = 4_950;
 
-/// The title above the plot.
-const TITLE: &str = "Physical memory with and without meshing";
-
 /// Appends the plot as an SVG file.
-pub fn draw_plot(text: &mut Text, course: &Course)
+pub fn draw_plot(text: &mut Text, course: &Course, caption: &Caption)
     requires { course.now.before < 4294967295 }
     ensures { text.old ≡ Some [] → IfSome text.new (IsPlot (series_in course.now)) }
 {
     let pages = Axis::of_pages(most_pages(course.intervals));
     text.add_root(TITLE.as_bytes(), WIDTH, HEIGHT);
     text.add_style(RULES, DARK_RULES);
-    add_frame(text, course, pages);
+    add_frame(text, course, caption, pages);
     add_curves(text, course, pages.last);
     add_labels(text, course, pages.last);
     text.add(b"</svg>\n");
 }
 
 /// Appends what the curves are drawn on.
-fn add_frame(text: &mut Text, course: &Course, pages: Axis)
+fn add_frame(text: &mut Text, course: &Course, caption: &Caption, pages: Axis)
     requires { course.now.before < 4294967295 }
     ensures { Draws text.old text.new }
 {
     let mut shapes = Shapes::new(text.alloc());
-    draw_frame(&mut shapes, course, pages);
+    draw_frame(&mut shapes, course, caption, pages);
     text.draw(&shapes);
 }
 
@@ -90,48 +88,15 @@ fn add_curve(text: &mut Text, course: &Course, top: u32, curve: Curve)
 }
 
 /// Draws the background, the words above the plot, and the axes.
-fn draw_frame(shapes: &mut Shapes, course: &Course, pages: Axis)
+fn draw_frame(shapes: &mut Shapes, course: &Course, caption: &Caption, pages: Axis)
     requires { course.now.before < 4294967295 }
 {
     shapes.rect(Look::of("bg"), Area::at(0, 0, WIDTH, HEIGHT), 0);
     shapes.rect(Look::of("card"), PLOT, 0);
-    draw_head(shapes, course);
+    draw_caption(shapes, course, caption);
     draw_legend(shapes);
     draw_pages(shapes, pages);
     draw_calls(shapes, course);
-}
-
-/// Draws the title, the measured calls, and a note that explains the numbers.
-fn draw_head(shapes: &mut Shapes, course: &Course) {
-    let title = shapes.spell(b"", TITLE, &[]);
-    let heading = Look::of("ink").with(HEADING);
-    write(shapes, heading, Anchor::Start, PLOT.x, 300, title);
-    if course.before < course.last {
-        draw_measured(shapes, course);
-    }
-    let values = if course.width > 1 {
-        "; the least and the greatest value of every # calls"
-    } else {
-        ""
-    };
-    let note = shapes.spell(
-        b"pages of objects up to 2,048 bytes",
-        values,
-        &[course.width],
-    );
-    let soft = Look::of("soft").with(NOTE);
-    write(shapes, soft, Anchor::Start, PLOT.x, 650, note);
-}
-
-/// Draws the numbers of the first and of the last measured call.
-fn draw_measured(shapes: &mut Shapes, course: &Course) {
-    let words = shapes.spell(b"calls ", "", &[]);
-    let words = spell_number(shapes, words, course.before.saturating_add(1));
-    let words = shapes.spell(words.as_slice(), " to ", &[]);
-    let words = spell_number(shapes, words, course.last);
-    let words = shapes.spell(words.as_slice(), " of the recorded program", &[]);
-    let soft = Look::of("soft").with(NOTE);
-    write(shapes, soft, Anchor::Start, PLOT.x, 480, words);
 }
 
 /// Draws a note that there are no curves.

@@ -1,5 +1,6 @@
 //! Words and numbers.
 use draw_svg::{Anchor, Label, Look, Shapes};
+use itoa::Buffer;
 
 /// The values of the digits after which a long number has a comma.
 static UNITS: [u32; 3] = [1_000_000_000, 1_000_000, 1_000];
@@ -31,6 +32,12 @@ pub fn spell_number(shapes: &mut Shapes, words: Vec<u8>, number: u32) -> Vec<u8>
         }
     }
     spell_group(shapes, &words, number, has_begun, "")
+}
+
+/// Appends the decimal digits of a number.
+pub fn spell_long(shapes: &mut Shapes, words: Vec<u8>, number: u64) -> Vec<u8> {
+    let mut digits = Buffer::new();
+    shapes.spell(words.as_slice(), digits.format(number), &[])
 }
 
 /// Appends the last three digits of a number to words, and then `end`. Zeros before the first other digit are written

@@ -1,8 +1,8 @@
 //! The peaks and the sums of sequences of numbers.
-ghost use Rattle.std.specs.Prelude.{◌≡◌, ℕ, ◌+◌, ◌<◌, ◌≤◌, ◌^◌, ◌∷◌, [], ◌++◌, List, slice_index, sum};
+ghost use Rattle.std.specs.Prelude.{◌≡◌, ℕ, ◌+◌, ◌*◌, ◌<◌, ◌≤◌, ◌^◌, ◌∷◌, [], ◌++◌, List, IsTrue, slice_index, sum};
 ghost use Rattle.savings_report.specs.declared.table.samples.Sample.{Sample};
 ghost use Rattle.savings_report.specs.FigureSamples.{AreFew, IsBounded, total};
-ghost use Rattle.savings_report.specs.Figures.{AreLevels, AreLevelsIn, IsColumn, IsColumnIn, IsLevel, IsLevelIn};
+ghost use Rattle.savings_report.specs.Figures.{AreLevels, AreLevelsIn, IsColumn, IsColumnIn, class_sum, IsLevel, IsLevelIn};
 
 use crate::table::rounding::whole_pages;
 use crate::table::samples::{CLASSES, Sample};
@@ -14,10 +14,19 @@ pub struct Level {
     pub sum: u128,
 }
 
-/// The peak and the sum of the total pages over some samples, and for each class the sum of the class's pages.
+/// The peak and the sum of the total pages over some samples, and for each class the sum of the class's pages. Most
+/// samples have the pages of the sample before. Such samples are counted, and their pages are added to the sums of the
+/// classes when the pages change.
 #[derive(Clone, Copy, Debug)]
 pub struct Column {
     pub total: Level,
+    /// The pages of the last sample.
+    pub pages: [u32; CLASSES],
+    /// The total of these pages.
+    pub all: u32,
+    /// The number of samples at the end that have these pages, and aren't in `sums`.
+    pub repeats: u32,
+    /// For each class, the sum of its pages over the samples before.
     pub sums: [u64; CLASSES],
 }
 
@@ -68,6 +77,9 @@ impl Column {
     {
         Column {
             total: Level::none(),
+            pages: [0; CLASSES],
+            all: 0,
+            repeats: 0,
             sums: [0; CLASSES],
         }
     }
@@ -75,17 +87,43 @@ impl Column {
     /// Adds the pages of one more sample, and returns their total.
     pub fn add(&mut self, pages: &[u32; CLASSES]) -> u32
         requires few { AreFew pages.now }
-        requires bounds { IsColumnIn self.old 4294967295 }
+        requires bounds { IsColumnIn self.old 4294967294 }
         ensures total { result ≡ sum pages.now }
         ensures few { result ≤ 1310720 }
         ensures column { (samples : List (List ℕ)) → IsColumn self.old samples
             → IsColumn self.new (samples ++ pages.now ∷ []) }
         ensures bounds { (count : ℕ) → IsColumnIn self.old count → IsColumnIn self.new (count + 1) }
     {
-        let total = total_pages(pages);
-        self.total.add(u128::from(total));
-        add_each(&mut self.sums, pages);
-        total
+        self.turn_to(pages);
+        self.repeats += 1;
+        self.total.add(u128::from(self.all));
+        self.all
+    }
+
+    /// Returns the sum of the pages of the class at place `k` of the class table, over all samples.
+    pub fn sum_of(&self, k: usize) -> u128
+        requires { k < 10 }
+        ensures { result ≡ class_sum self.now k }
+    {
+        u128::from(self.sums[k]) + u128::from(self.repeats) * u128::from(self.pages[k])
+    }
+
+    /// Makes these pages those of the last sample, without a sample that has them if they are new.
+    fn turn_to(&mut self, pages: &[u32; CLASSES])
+        requires few { AreFew pages.now }
+        requires bounds { IsColumnIn self.old 4294967294 }
+        ensures pages { self.new.pages ≡ pages.now }
+        ensures all { self.new.all ≡ sum pages.now }
+        ensures repeats { self.new.repeats ≤ self.old.repeats }
+        ensures total { self.new.total ≡ self.old.total }
+        ensures sums { (k : ℕ) → k < 10 → class_sum self.new k ≡ class_sum self.old k }
+    {
+        if !are_equal(pages, &self.pages) {
+            add_each(&mut self.sums, &self.pages, self.repeats);
+            self.pages = *pages;
+            self.all = total_pages(pages);
+            self.repeats = 0;
+        }
     }
 }
 
@@ -134,12 +172,24 @@ pub fn total_pages(pages: &[u32; CLASSES]) -> u32
     pages.iter().sum()
 }
 
-/// Adds the pages of each class to the sum of that class.
-fn add_each(sums: &mut [u64; CLASSES], pages: &[u32; CLASSES])
-    requires { (k : ℕ) → k < 10 → slice_index sums.old k + slice_index pages.now k < 2 ^ 64 }
-    ensures { (k : ℕ) → k < 10 → slice_index sums.new k ≡ slice_index sums.old k + slice_index pages.now k }
+/// Whether each class has as many pages in one list as in the other.
+fn are_equal(one: &[u32; CLASSES], other: &[u32; CLASSES]) -> bool
+    ensures { IsTrue result → one.now ≡ other.now }
 {
     for k in 0..CLASSES {
-        sums[k] += u64::from(pages[k]);
+        if one[k] != other[k] {
+            return false;
+        }
+    }
+    true
+}
+
+/// Adds the pages of each class to the sum of that class, so many times.
+fn add_each(sums: &mut [u64; CLASSES], pages: &[u32; CLASSES], times: u32)
+    requires { (k : ℕ) → k < 10 → slice_index sums.old k + times * slice_index pages.now k < 2 ^ 64 }
+    ensures { (k : ℕ) → k < 10 → slice_index sums.new k ≡ slice_index sums.old k + times * slice_index pages.now k }
+{
+    for k in 0..CLASSES {
+        sums[k] += u64::from(times) * u64::from(pages[k]);
     }
 }

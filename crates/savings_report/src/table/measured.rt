@@ -5,7 +5,7 @@ ghost use Rattle.savings_report.specs.FigureSamples.{IsBounded, empty_by, last, 
 ghost use Rattle.savings_report.specs.Figures.{IsInBounds, IsMeasured, IsSmall};
 
 use crate::table::levels::{Column, Levels, total_pages};
-use crate::table::moments::{Moment, more_live, more_saved};
+use crate::table::moments::{Moment, keep_most_live, keep_most_saved};
 use crate::table::pages::{Both, Pages, Row};
 use crate::table::rounding;
 use crate::table::samples::{CLASSES, Sample};
@@ -79,8 +79,8 @@ impl Measured {
             live_bytes: sample.live_bytes,
             large_pages: sample.large_pages,
         };
-        self.most_saved = more_saved(self.most_saved, moment);
-        self.most_live = more_live(self.most_live, moment);
+        keep_most_saved(&mut self.most_saved, &moment);
+        keep_most_live(&mut self.most_live, &moment);
     }
 
     /// Returns the row of the peaks.
@@ -193,9 +193,9 @@ impl Measured {
             → result ≡ pages_by mean (of_class k) samples }
     {
         Pages {
-            without: rounding::mean(u128::from(self.without.sums[k]), self.count),
-            with: rounding::mean(u128::from(self.with.sums[k]), self.count),
-            perfect: rounding::mean(u128::from(self.perfect.sums[k]), self.count),
+            without: rounding::mean(self.without.sum_of(k), self.count),
+            with: rounding::mean(self.with.sum_of(k), self.count),
+            perfect: rounding::mean(self.perfect.sum_of(k), self.count),
         }
     }
 

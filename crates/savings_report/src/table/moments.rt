@@ -1,5 +1,5 @@
 //! The calls after which meshing saves most, and after which the most bytes are live.
-ghost use Rattle.std.specs.Prelude.{◌≡◌, ◌≤◌, ◌<◌, ◌^◌, ◌∷◌, [], ◌++◌, List, Some};
+ghost use Rattle.std.specs.Prelude.{◌≡◌, ◌≤◌, ◌<◌, ◌^◌, ◌∷◌, [], ◌++◌, List, Some, IsTrue, false};
 ghost use Rattle.savings_report.specs.declared.table.moments.Moment.{Moment};
 ghost use Rattle.savings_report.specs.FigureSamples.{lives_no_less, row_at, saves_no_less};
 ghost use Rattle.savings_report.specs.Figures.{IsMomentIn, IsMost, IsSmall};
@@ -68,52 +68,55 @@ pub fn row_at(moment: &Option<Moment>) -> Row
     }
 }
 
-/// Returns `next` if `best` is `None` or `next` saves more pages than `best`. Otherwise returns `best`.
-pub fn more_saved(best: Option<Moment>, next: Moment) -> Option<Moment>
-    ensures { (moments : List Moment) → IsMost saves_no_less best moments
-        → IsMost saves_no_less result (moments ++ next ∷ []) }
+/// Puts `next` in the place of `best` if `best` is `None` or `next` saves more pages than `best`.
+pub fn keep_most_saved(best: &mut Option<Moment>, next: &Moment)
+    ensures { (moments : List Moment) → IsMost saves_no_less best.old moments
+        → IsMost saves_no_less best.new (moments ++ next.now ∷ []) }
 {
-    match best {
-        Some(best) => Some(greater_saving(best, next)),
-        None => Some(next),
+    if saves_more(best, next) {
+        *best = Some(*next);
     }
 }
 
-/// Returns `next` if it saves more pages than `best`, and `best` otherwise.
-fn greater_saving(best: Moment, next: Moment) -> Moment
-    ensures { (moments : List Moment) → IsMost saves_no_less (Some best) moments
-        → IsMost saves_no_less (Some result) (moments ++ next ∷ []) }
-{
-    let kept = u64::from(best.without) + u64::from(next.with);
-    let taken = u64::from(next.without) + u64::from(best.with);
-    if kept < taken { next } else { best }
-}
-
-/// Returns `next` if `best` is `None` or `next` has more live bytes than `best`. Otherwise returns `best`.
-pub fn more_live(best: Option<Moment>, next: Moment) -> Option<Moment>
-    requires best { IsMomentIn best }
-    requires next { next.large_pages ≤ 2 ^ 84 }
-    ensures most { (moments : List Moment) → IsMost lives_no_less best moments
-        → IsMost lives_no_less result (moments ++ next ∷ []) }
-    ensures bounds { IsMomentIn result }
+/// Whether `best` is `None` or `next` saves more pages than `best`.
+fn saves_more(best: &Option<Moment>, next: &Moment) -> bool
+    ensures more { IsTrue result → (moments : List Moment) → IsMost saves_no_less best.now moments
+        → IsMost saves_no_less (Some next.now) (moments ++ next.now ∷ []) }
+    ensures no_more { result ≡ false → (moments : List Moment) → IsMost saves_no_less best.now moments
+        → IsMost saves_no_less best.now (moments ++ next.now ∷ []) }
 {
     match best {
-        Some(best) => Some(fuller(best, next)),
-        None => Some(next),
+        Some(best) => {
+            let kept = u64::from(best.without) + u64::from(next.with);
+            let taken = u64::from(next.without) + u64::from(best.with);
+            kept < taken
+        }
+        None => true,
     }
 }
 
-/// Returns `next` if it has more live bytes than `best`, and `best` otherwise.
-fn fuller(best: Moment, next: Moment) -> Moment
-    requires best { best.large_pages ≤ 2 ^ 84 }
-    requires next { next.large_pages ≤ 2 ^ 84 }
-    ensures most { (moments : List Moment) → IsMost lives_no_less (Some best) moments
-        → IsMost lives_no_less (Some result) (moments ++ next ∷ []) }
-    ensures bounds { result.large_pages ≤ 2 ^ 84 }
+/// Puts `next` in the place of `best` if `best` is `None` or `next` has more live bytes than `best`.
+pub fn keep_most_live(best: &mut Option<Moment>, next: &Moment)
+    requires best { IsMomentIn best.old }
+    requires next { next.now.large_pages ≤ 2 ^ 84 }
+    ensures most { (moments : List Moment) → IsMost lives_no_less best.old moments
+        → IsMost lives_no_less best.new (moments ++ next.now ∷ []) }
+    ensures bounds { IsMomentIn best.new }
 {
-    if best.live_bytes < next.live_bytes {
-        next
-    } else {
-        best
+    if is_fuller(best, next) {
+        *best = Some(*next);
+    }
+}
+
+/// Whether `best` is `None` or `next` has more live bytes than `best`.
+fn is_fuller(best: &Option<Moment>, next: &Moment) -> bool
+    ensures more { IsTrue result → (moments : List Moment) → IsMost lives_no_less best.now moments
+        → IsMost lives_no_less (Some next.now) (moments ++ next.now ∷ []) }
+    ensures no_more { result ≡ false → (moments : List Moment) → IsMost lives_no_less best.now moments
+        → IsMost lives_no_less best.now (moments ++ next.now ∷ []) }
+{
+    match best {
+        Some(best) => best.live_bytes < next.live_bytes,
+        None => true,
     }
 }

@@ -35,8 +35,8 @@ returns-clause-measured c = λ first samples h call.
           subst (IsColumn c.add-perfect.new.self) (sym (map-append (λ (t : Sample). t.perfect) samples (s ∷ [])))
           (c.add-perfect.ensures.column _ h.perfect_is);
       levels_are = c.add.ensures.levels samples h.levels_are;
-      most_saved_is = most_push saves_no_less c.more_saved-self.result first samples s next same (c.more_saved-self.ensures _ h.most_saved_is);
-      most_live_is = most_push lives_no_less c.more_live-self.result first samples s next same (c.more_live-self.ensures.most _ h.most_live_is);
+      most_saved_is = most_push saves_no_less c.keep_most_saved.new.best first samples s next same (c.keep_most_saved.ensures _ h.most_saved_is);
+      most_live_is = most_push lives_no_less c.keep_most_live.new.best first samples s next same (c.keep_most_live.ensures.most _ h.most_live_is);
     }
 
 pub returns-clause-bounds : goal.returns-clause-bounds
@@ -55,5 +55,5 @@ returns-clause-bounds c =
             perfect_in = omega (arith, c.add-perfect.ensures.total);
             large_in = c.requires.bounded.large;
           };
-      most_live_in = c.more_live-self.ensures.bounds;
+      most_live_in = c.keep_most_live.ensures.bounds;
     }
