@@ -1,0 +1,2 @@
+pub mod AnswersJudged
+pub mod SpotBytes

@@ -1,0 +1,13 @@
+pub mod Heaps
+pub mod Spots
+pub mod PageMap
+pub mod Groups
+pub mod Moves
+pub mod Effects
+pub mod Tries
+pub mod States
+pub mod Faults
+pub mod AnswerLaws
+pub mod MoveLaws
+pub mod SpotLaws
+pub mod StepLaws

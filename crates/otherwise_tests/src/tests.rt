@@ -1,0 +1,4 @@
+//! Tests of explorations of meshes that are made by other lists of steps.
+
+mod cases;
+mod explorations;
