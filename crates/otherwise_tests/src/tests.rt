@@ -2,3 +2,5 @@
 
 mod cases;
 mod explorations;
+mod rule;
+mod runs;

@@ -19,7 +19,7 @@ pub(crate) struct Case {
 }
 
 /// Two groups of one span each, with two slots.
-const TWO_SLOTS: &str =
+pub(crate) const TWO_SLOTS: &str =
     "mesh 1\npages 16\nhistory 64\nworkers 2\nworker 0\nnew 0 2048 0\nnew 1 2048 0\nnew 2 2048 0\nnew 3 2048 0\nfree 0\nfree 3\nput 2 0 11\nworker 1\nput 1 0 a1\nget 1 0 1\nfree 1\nput 2 0 a2\nget 2 0 1\nfree 2\nnew 255 1024 0\nnew 255 2048 0\nput 255 0 ee\nget 255 0 1\nplan\nend\n";
 
 /// Two groups of one span each, with three pages and eight slots. An object of the source is on two pages.

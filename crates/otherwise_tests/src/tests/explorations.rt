@@ -1,30 +1,12 @@
 //! Compares what explorations find with what another engine finds.
 
 use crate::tests::cases::{CASES, Case};
-use explore_otherwise::{
-    Asking, Explorer, Pair, Phase, Setting, Start, explored, first_fault, first_wrong,
-};
-use model_otherwise::{FaultKind, Tried};
-use states_reach::{Reached, Unwatched};
+use crate::tests::runs::{KINDS, run};
+use explore_otherwise::{Explorer, Phase, first_fault, first_wrong};
+use model_otherwise::FaultKind;
+use states_reach::Reached;
 use std::alloc::Global;
-use text_job::{Job, Script, read_file};
-
-/// A number of states that no case exceeds.
-const MOST: usize = 100_000;
-
-/// The number of physical pages.
-const PAGES: u16 = 16;
-
-/// The kinds of faults.
-const KINDS: [FaultKind; 7] = [
-    FaultKind::WrongByte,
-    FaultKind::SharedPlace,
-    FaultKind::FreePage,
-    FaultKind::NoPage,
-    FaultKind::LostPage,
-    FaultKind::ApartGroup,
-    FaultKind::ProtectedPage,
-];
+use text_job::{Job, read_file};
 
 /// What an exploration finds: the number of states, the number of moves to a wrong answer, and the number of moves to a
 /// fault of each kind.
@@ -33,19 +15,6 @@ struct Findings {
     states: usize,
     answer: Option<u32>,
     faults: [Option<u32>; 7],
-}
-
-/// Returns the start to which the commands of a script lead. `None` if a command isn't answered.
-fn start_of(alloc: Global, commands: &Script) -> Option<Start> {
-    let mut start = Start::fresh(alloc).ok()?;
-    for place in 0..commands.len() {
-        let command = commands.get(place)?;
-        let tried = start.give(alloc, PAGES, &command).ok()?;
-        if !matches!(tried, Tried::Answered(_)) {
-            return None;
-        }
-    }
-    Some(start)
 }
 
 /// Returns the phases of a case.
@@ -69,24 +38,8 @@ fn depth(reached: &Reached<Explorer<'_>>, place: usize) -> Option<u32> {
 
 /// Returns what an exploration finds. `None` if the job can't be explored.
 fn found(alloc: Global, case: &Case, job: &Job) -> Option<Findings> {
-    if job.scripts.count() != 2 {
-        return None;
-    }
-    let start = start_of(alloc, job.scripts.of(0))?;
     let phases = phases_of(alloc, case)?;
-    let pairs = [Pair {
-        source: 1,
-        destination: 0,
-    }];
-    let setting = Setting {
-        phases: phases.as_slice(),
-        pages: PAGES,
-        version: job.version,
-        room: case.commands,
-        asking: Asking::Client(job.scripts.of(1)),
-        pairs: &pairs,
-    };
-    let reached = explored(alloc, &setting, start, MOST, &mut Unwatched).ok()?;
+    let reached = run(alloc, job, phases.as_slice(), case.commands)?;
     let answer = match first_wrong(alloc, &reached.system).ok()? {
         Some(wrong) => Some(depth(&reached, wrong.place)?.saturating_add(1)),
         None => None,
