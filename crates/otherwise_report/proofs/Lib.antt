@@ -1,0 +1,14 @@
+pub mod Begun
+pub mod ClientCells
+pub mod ClientMoves
+pub mod ClientObjects
+pub mod ClientSteps
+pub mod CountedEnds
+pub mod Drops
+pub mod NearestStates
+pub mod PhaseLists
+pub mod ReportMeanings
+pub mod Sections
+pub mod ToldRuns
+pub mod WordParts
+pub mod Written

@@ -1,0 +1,12 @@
+pub mod ClientLaws
+pub mod Clients
+pub mod Ends
+pub mod Errors
+pub mod FaultTexts
+pub mod Nearest
+pub mod PlanStarts
+pub mod PlanTexts
+pub mod ReportLaws
+pub mod Reports
+pub mod Runs
+pub mod StepWords
