@@ -4,7 +4,7 @@ use Rattle.std.specs.Str.{bytes_eq}
 use Rattle.run_command_line.specs.declared.command_line.Args.{Args}
 use Rattle.run_command_line.specs.declared.command_line.Args.TheVariants.{Replay, ReplayHistory, ReplayEcho, Threads, ThreadsPaced, ThreadsHistory, ThreadsReport, Draw, DrawHtml, DrawText, Live, Explore, Check, Savings}
 use Rattle.run_command_line.specs.declared.explore_args.Told.{Told}
-use Rattle.run_command_line.specs.declared.explore_args.Told.TheVariants.{All, Outcome, Answer, Verdict}
+use Rattle.run_command_line.specs.declared.explore_args.Told.TheVariants.{All, Outcome, Answer, Steps, Verdict}
 
 -- the path of a file. `-` is standard input
 abbrev pub file_at : List ℕ → Option (List ℕ)
@@ -33,6 +33,7 @@ expected_path_of All = None
 expected_path_of (Outcome number) = None
 expected_path_of (Answer shown) = None
 expected_path_of (Verdict path) = option_map (λ path. path.now) path
+expected_path_of (Steps args) = None
 
 -- the path of the text of the expected outcomes, if the arguments name one
 abbrev pub expected_file_of : Args → Option (List ℕ)

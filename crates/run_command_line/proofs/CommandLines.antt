@@ -12,7 +12,7 @@ use Rattle.clap.specs.declared.parser.matches.Found.{Found}
 use Rattle.clap.proofs.OnLiterals.{clap_on_literals}
 use Rattle.clap.proofs.WalkLemmas.{first_value-rows}
 use Rattle.run_command_line.specs.Conditions.{ConditionTexts, no_condition}
-use Rattle.run_command_line.specs.CommandLine.{Asked, IsSaidOf, asked, asked_by, asked_in, asked_of, is_taken, kinds_of, check_of, csv, draw_html_of, draw_of, draw_text_of, every, explore_of, live_of, meshrun_app, plot, share, table, conditions_asked, conditions_found, conditions_in, explains_asked, explains_found, explains_in, replay_echo_of, replay_history_of, replay_of, savings_of, tells_all, tells_answer, tells_outcome, tells_verdict, threads_history_of, threads_of, threads_report_of}
+use Rattle.run_command_line.specs.CommandLine.{Asked, IsSaidOf, asked, asked_by, asked_in, asked_of, is_taken, kinds_of, check_of, csv, draw_html_of, draw_of, draw_text_of, every, explore_of, live_of, meshrun_app, plot, share, table, conditions_asked, conditions_found, conditions_in, explains_asked, explains_found, explains_in, replay_echo_of, replay_history_of, replay_of, savings_of, tells_all, tells_answer, tells_outcome, tells_steps, tells_verdict, threads_history_of, threads_of, threads_report_of}
 
 -- the command line is one whose matches and faults `clap` tells
 pub is_told : is_simple_and_free meshrun_app ≡ true
@@ -196,7 +196,7 @@ explorations_are_asked :
 unfolding clap_on_literals asked is_taken
 explorations_are_asked = ((refl, refl), (refl, refl))
 
--- an answer in a phase, or a verdict, in place of all outcomes
+-- an answer in a phase, a verdict, or a report on steps, in place of all outcomes. The heap's own steps are no report
 tellings_are_asked :
     Asks (codes "explore a.job --mesh 1:0 --show 12:done:mesh --progress")
     (explore_of (codes "a.job") (record {
@@ -216,8 +216,26 @@ tellings_are_asked :
       allows_no_mesh = true;
       is_watched = false;
     }))
+    × Asks (codes "explore a.job --mesh 1:0 --steps copy --any 2")
+    (explore_of (codes "a.job") (record {
+      meshes = record { source = 1; destination = 0 } ∷ [];
+      cancel = None;
+      states = 100000;
+      told = tells_steps (record { list = Some (codes "copy"); commands = Some 2 });
+      allows_no_mesh = false;
+      is_watched = false;
+    }))
+    × Asks (codes "explore a.job --mesh 1:0 --steps right")
+    (explore_of (codes "a.job") (record {
+      meshes = record { source = 1; destination = 0 } ∷ [];
+      cancel = None;
+      states = 100000;
+      told = tells_all;
+      allows_no_mesh = false;
+      is_watched = false;
+    }))
 unfolding clap_on_literals asked is_taken
-tellings_are_asked = ((refl, refl), (refl, refl))
+tellings_are_asked = ((refl, refl), (refl, refl), (refl, refl), (refl, refl))
 
 -- the conditions come in their order, each kind by itself, and a replay has none
 conditions_are_asked :

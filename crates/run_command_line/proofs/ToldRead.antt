@@ -5,7 +5,7 @@ use Rattle.std.specs.Prelude.{option_and_then}
 use Rattle.clap.specs.Words.{Text, first_of, first_value, matched_of, raw_values, rows_of}
 use Rattle.clap.specs.declared.parser.matches.Found.{Found}
 use Rattle.clap.proofs.WalkLemmas.{first_value-rows, raw_values-rows}
-use Rattle.run_command_line.specs.CommandLine.{ShownAnswer, ToldOf, asks_verdict, few_texts, given_in, of_given, shown_given_in, shown_of_text, texts_in, told_by, told_in, told_where}
+use Rattle.run_command_line.specs.CommandLine.{ShownAnswer, ToldOf, asks_verdict, few_texts, given_in, listing_told_in, of_given, other_list, shown_given_in, shown_of_text, texts_in, told_by, told_in, told_where, told_with}
 use Rattle.run_command_line.specs.Conditions.{ConditionTexts}
 
 -- more than ten
@@ -40,26 +40,41 @@ module _ (found : Found) where
       → None ≡ texts_in name (rows_of found)
   too_many_given name texts is many = given name texts false is many
 
-  -- what is told, by what was read
-  abbrev told_with : ConditionTexts → Option ℕ → Option ToldOf
-  told_with conditions witness = option_and_then (told_where (first_of (codes "expect") (rows_of found)) conditions witness) (shown_given_in (rows_of found))
+  -- what is told of outcomes, by what was read
+  abbrev listing_with : ConditionTexts → Option ℕ → Option ToldOf
+  listing_with conditions witness = option_and_then (told_where (first_of (codes "expect") (rows_of found)) conditions witness) (shown_given_in (rows_of found))
 
-  pub told_is : (conditions : ConditionTexts) (expect : Option Text) (witness : Option ℕ) (shown : Option ShownAnswer) (verdict : Bool) (told : Option ToldOf)
+  pub listing_is : (conditions : ConditionTexts) (expect : Option Text) (witness : Option ℕ) (shown : Option ShownAnswer) (verdict : Bool) (told : Option ToldOf)
       → Some witness ≡ given_in (codes "witness") 0 4294967295 (rows_of found) → Some shown ≡ shown_given_in (rows_of found)
       → expect ≡ first_value found (codes "expect") → verdict ≡ asks_verdict expect conditions
-      → told ≡ told_by witness shown verdict (record { expect = expect; conditions = conditions }) → told ≡ told_in conditions (rows_of found)
-  told_is conditions expect witness shown verdict told witness_is shown_is expect_is verdict_is is =
+      → told ≡ told_by witness shown verdict (record { expect = expect; conditions = conditions }) → told ≡ listing_told_in conditions (rows_of found)
+  listing_is conditions expect witness shown verdict told witness_is shown_is expect_is verdict_is is =
       is
       ∙ ap (λ (b : Bool). told_by witness shown b (record { expect = expect; conditions = conditions })) verdict_is
       ∙ ap (λ (e : Option Text). told_where e conditions witness shown) (expect_is ∙ first_value-rows found (codes "expect"))
       ∙ ap (option_and_then (told_where (first_of (codes "expect") (rows_of found)) conditions witness)) shown_is
-      ∙ ap (option_and_then (told_with conditions)) witness_is
+      ∙ ap (option_and_then (listing_with conditions)) witness_is
 
   -- an outcome or an answer that can't be read
-  pub no_witness : (conditions : ConditionTexts) → None ≡ given_in (codes "witness") 0 4294967295 (rows_of found) → None ≡ told_in conditions (rows_of found)
-  no_witness conditions is = ap (option_and_then (told_with conditions)) is
+  pub no_witness : (conditions : ConditionTexts) → None ≡ given_in (codes "witness") 0 4294967295 (rows_of found) → None ≡ listing_told_in conditions (rows_of found)
+  no_witness conditions is = ap (option_and_then (listing_with conditions)) is
 
   pub no_answer : (conditions : ConditionTexts) (witness : Option ℕ) → Some witness ≡ given_in (codes "witness") 0 4294967295 (rows_of found)
-      → None ≡ shown_given_in (rows_of found) → None ≡ told_in conditions (rows_of found)
+      → None ≡ shown_given_in (rows_of found) → None ≡ listing_told_in conditions (rows_of found)
   no_answer conditions witness witness_is is =
-      ap (option_and_then (told_where (first_of (codes "expect") (rows_of found)) conditions witness)) is ∙ ap (option_and_then (told_with conditions)) witness_is
+      ap (option_and_then (told_where (first_of (codes "expect") (rows_of found)) conditions witness)) is ∙ ap (option_and_then (listing_with conditions)) witness_is
+
+  -- what is told, by what is told of outcomes
+  abbrev told_beside : ToldOf → Option ToldOf
+  told_beside listing =
+      option_and_then (λ (commands : Option ℕ). told_with (other_list (first_of (codes "steps") (rows_of found))) commands listing)
+      (given_in (codes "any") 0 1000 (rows_of found))
+
+  pub told_is : (conditions : ConditionTexts) (listing : ToldOf) (commands : Option ℕ) (steps list : Option Text) (told : Option ToldOf)
+      → Some listing ≡ listing_told_in conditions (rows_of found) → Some commands ≡ given_in (codes "any") 0 1000 (rows_of found)
+      → steps ≡ first_value found (codes "steps") → list ≡ other_list steps → told ≡ told_with list commands listing → told ≡ told_in conditions (rows_of found)
+  told_is conditions listing commands steps list told listing_is commands_are steps_are list_is is =
+      is
+      ∙ ap (λ (l : Option Text). told_with l commands listing) (list_is ∙ ap other_list (steps_are ∙ first_value-rows found (codes "steps")))
+      ∙ ap (option_and_then (λ (c : Option ℕ). told_with (other_list (first_of (codes "steps") (rows_of found))) c listing)) commands_are
+      ∙ ap (option_and_then told_beside) listing_is

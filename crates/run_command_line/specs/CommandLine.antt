@@ -23,7 +23,7 @@ use Rattle.run_command_line.specs.declared.draw_args.DrawArgs.{DrawArgs}
 use Rattle.run_command_line.specs.declared.explore_args.ExploreArgs.{ExploreArgs}
 use Rattle.run_command_line.specs.declared.explore_args.ShownArgs.{ShownArgs}
 use Rattle.run_command_line.specs.declared.explore_args.Told.{Told}
-use Rattle.run_command_line.specs.declared.explore_args.Told.TheVariants.{All, Answer, Outcome, Verdict}
+use Rattle.run_command_line.specs.declared.explore_args.Told.TheVariants.{All, Answer, Outcome, Steps, Verdict}
 use Rattle.explore_interleavings.specs.declared.pair.MeshPair.{MeshPair}
 use Rattle.run_command_line.specs.declared.live_args.LiveArgs.{LiveArgs}
 use Rattle.run_command_line.specs.declared.savings_args.FiguresForm.{FiguresForm}
@@ -93,11 +93,12 @@ live_app = with_rule (with_rule (with_rule (new_app (codes "live")) (number_or (
     (number_or (codes "history") 0 65536 (codes "65536"))) (number_or (codes "workers") 1 64 (codes "64"))
 
 -- `explore FILE --mesh SRC:DST [--mesh ..] [--cancel AFTER] [--states N] [--witness K | --show LINE:ANSWER:PHASE |
--- [--expect FILE] [--never COND ..] [--always COND ..] [--exists COND ..]] [--allow-no-mesh] [--progress]`
+-- [--expect FILE] [--never COND ..] [--always COND ..] [--exists COND ..] | [--steps LIST] [--any N]] [--allow-no-mesh]
+-- [--progress]`
 abbrev pub explore_app : App
-explore_app = with_rule (with_rule (with_rule (with_rule (with_rule (with_rule (with_rule (with_rule (with_rule (with_rule (with_rule (with_rule (new_app (codes "explore")) file_rule) mesh_rule)
+explore_app = with_rule (with_rule (with_rule (with_rule (with_rule (with_rule (with_rule (with_rule (with_rule (with_rule (with_rule (with_rule (with_rule (with_rule (new_app (codes "explore")) file_rule) mesh_rule)
     (number_rule (codes "cancel") 0 1000)) (number_or (codes "states") 1 10000000 (codes "100000"))) (number_rule (codes "witness") 0 4294967295))
-    (text_rule (codes "show"))) (text_rule (codes "expect"))) (texts_rule (codes "never"))) (texts_rule (codes "always"))) (texts_rule (codes "exists"))) (flag_rule (codes "allow-no-mesh"))) (flag_rule (codes "progress"))
+    (text_rule (codes "show"))) (text_rule (codes "expect"))) (texts_rule (codes "never"))) (texts_rule (codes "always"))) (texts_rule (codes "exists"))) (text_rule (codes "steps"))) (number_rule (codes "any") 0 1000)) (flag_rule (codes "allow-no-mesh"))) (flag_rule (codes "progress"))
 
 -- `check FILE [--configurations N] [--order] [--witness]`
 abbrev pub check_app : App
@@ -171,12 +172,20 @@ pub record Judged : Type 0 where
   pub expect : Option Text
   pub conditions : ConditionTexts
 
--- what is printed of an exploration: all outcomes, one outcome or one answer as a job file, or a verdict
+-- the list of steps by which meshes are made, `None` for the steps of the heap's own meshes, and how many commands a
+-- client gives at most, if a client gives them
+pub record Stepped : Type 0 where
+  pub list : Option Text
+  pub commands : Option ℕ
+
+-- what is printed of an exploration: all outcomes, one outcome or one answer as a job file, a verdict, or a report on
+-- meshes that are made by a list of steps
 pub data ToldOf : Type 0 where
   tells_all : ToldOf
   tells_outcome : ℕ → ToldOf
   tells_answer : ShownAnswer → ToldOf
   tells_verdict : Judged → ToldOf
+  tells_steps : Stepped → ToldOf
 
 -- what `explore` is asked for: the meshes, after how many steps each mesh is cancelled, if at all, and the greatest
 -- number of states. Then what is printed, whether a verdict may be positive if a mesh never begins, and whether the
@@ -421,18 +430,55 @@ told_by (Some number) (Some shown) is_verdict judged = None
 abbrev pub told_where : Option Text → ConditionTexts → Option ℕ → Option ShownAnswer → Option ToldOf
 told_where expect conditions witness shown = told_by witness shown (asks_verdict expect conditions) (record { expect = expect; conditions = conditions })
 
+-- what is printed of outcomes according to the matches, with these conditions
+abbrev pub listing_told_in : ConditionTexts → List Row → Option ToldOf
+listing_told_in conditions rows =
+    option_and_then (λ witness. option_and_then (told_where (first_of (codes "expect") rows) conditions witness) (shown_given_in rows))
+    (given_in (codes "witness") 0 4294967295 rows)
+
+-- the list of steps that a text names. `right` names the steps of the heap's own meshes
+abbrev pub other_list : Option Text → Option Text
+other_list None = None
+other_list (Some text) = if bytes_eq text (codes "right") then None else Some text
+
+-- the report on a list of steps, if all outcomes would be printed otherwise
+abbrev pub steps_told : Stepped → ToldOf → Option ToldOf
+steps_told stepped tells_all = Some (tells_steps stepped)
+steps_told stepped (tells_outcome number) = None
+steps_told stepped (tells_answer shown) = None
+steps_told stepped (tells_verdict judged) = None
+steps_told stepped (tells_steps other) = None
+
+-- what is printed, with this list of steps, if any, and this number of commands of a client, if any
+abbrev pub told_with : Option Text → Option ℕ → ToldOf → Option ToldOf
+told_with None None told = Some told
+told_with (Some list) commands told = steps_told (record { list = Some list; commands = commands }) told
+told_with None (Some commands) told = steps_told (record { list = None; commands = Some commands }) told
+
 -- what is printed according to the matches, with these conditions
 abbrev pub told_in : ConditionTexts → List Row → Option ToldOf
 told_in conditions rows =
-    option_and_then (λ witness. option_and_then (told_where (first_of (codes "expect") rows) conditions witness) (shown_given_in rows))
-    (given_in (codes "witness") 0 4294967295 rows)
+    option_and_then (λ told. option_and_then (λ commands. told_with (other_list (first_of (codes "steps") rows)) commands told)
+    (given_in (codes "any") 0 1000 rows)) (listing_told_in conditions rows)
+
+-- whether a report on meshes that are made by a list of steps is printed
+abbrev pub is_of_steps : ToldOf → Bool
+is_of_steps tells_all = false
+is_of_steps (tells_outcome number) = false
+is_of_steps (tells_answer shown) = false
+is_of_steps (tells_verdict judged) = false
+is_of_steps (tells_steps stepped) = true
+
+-- what is asked for, if no report on a list of steps is of meshes that are cancelled
+abbrev pub in_agreement : Explored → Option Explored
+in_agreement explored = if is_some explored.cancel && is_of_steps explored.told then None else Some explored
 
 -- what `explore` asks for according to its matches, with these conditions
 abbrev pub explored_in : ConditionTexts → List Row → Option Explored
 explored_in conditions rows =
     option_and_then (λ meshes. option_and_then (λ cancel. option_and_then (λ states. option_and_then (λ told.
-    option_and_then (λ allowed. option_map (λ is_watched.
-    record { meshes = meshes; cancel = cancel; states = states; told = told; allows_no_mesh = allowed; is_watched = is_watched })
+    option_and_then (λ allowed. option_and_then (λ is_watched.
+    in_agreement (record { meshes = meshes; cancel = cancel; states = states; told = told; allows_no_mesh = allowed; is_watched = is_watched }))
     (flag_in (codes "progress") rows)) (flag_in (codes "allow-no-mesh") rows)) (told_in conditions rows)) (number_in (codes "states") 1 10000000 rows)) (given_in (codes "cancel") 0 1000 rows)) (meshes_in rows)
 
 -- the seed of `savings`: with `--first-fit` none, otherwise the given seed, or 1 if none is given. The outer `None` is
@@ -581,6 +627,7 @@ told_of conditions All = tells_all
 told_of conditions (Outcome number) = tells_outcome number
 told_of conditions (Answer shown) = tells_answer (shown_answer_of shown)
 told_of conditions (Verdict expect) = tells_verdict (record { expect = option_map (λ path. path.now) expect; conditions = conditions })
+told_of conditions (Steps args) = tells_steps (record { list = option_map (λ list. list.now) args.list; commands = args.commands })
 
 -- the exploration in parsed arguments, with these conditions
 abbrev pub explored_of : ConditionTexts → ExploreArgs → Explored

@@ -34,6 +34,17 @@ pub enum Told<'a> {
     /// A verdict on the outcomes. If a path is given, the outcomes are compared with those that the file at this path
     /// lists. The conditions of the request are judged too.
     Verdict(Option<&'a str>),
+    /// A report on meshes that are made by a list of steps.
+    Steps(StepsArgs<'a>),
+}
+
+/// The list of steps by which meshes are made, and who gives commands.
+#[derive(Clone, Copy)]
+pub struct StepsArgs<'a> {
+    /// The list of steps. `None` for the steps of the heap's own meshes.
+    pub list: Option<&'a str>,
+    /// The greatest number of commands that a client gives, 0 to 1,000. `None` if the job's workers give theirs.
+    pub commands: Option<u32>,
 }
 
 /// The answer that `--show` names.

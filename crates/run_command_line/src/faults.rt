@@ -36,7 +36,7 @@ const THREADS_TWICE: &str = "--history and --report exclude each other";
 
 /// The error message if options of `explore` exclude each other.
 const TOLD_TWICE: &str =
-    "--witness, --show and a verdict (--expect, --never, --always, --exists) exclude each other";
+    "--witness, --show, a verdict (--expect, --never, --always, --exists) and a report (--steps, --any) exclude each other, and so do a report and --cancel";
 
 /// The error message if more than ten meshes are given.
 const MANY_MESHES: &str = "the argument '--mesh <SRC:DST>' cannot be used more than 10 times";

@@ -36,7 +36,7 @@ pub use check_args::CheckArgs;
 pub use command_line::{Args, arguments, request};
 pub use conditions::Conditions;
 pub use draw_args::DrawArgs;
-pub use explore_args::{ExploreArgs, ShownArgs, Told};
+pub use explore_args::{ExploreArgs, ShownArgs, StepsArgs, Told};
 pub use explore_interleavings::MeshPair;
 pub use live_args::LiveArgs;
 pub use meshes::Meshes;

@@ -269,6 +269,29 @@ const SHOW_OPTION: TextOption = TextOption {
     help: "Print a job file in which the command at LINE of FILE gets ANSWER in PHASE of a mesh, such as 12:done:unprotect 1",
 };
 
+pub(crate) const STEPS: &str = "steps";
+
+/// The text of `--steps` that means the steps of the heap's own meshes.
+pub(crate) const RIGHT_STEPS: &str = "right";
+
+const STEPS_OPTION: TextOption = TextOption {
+    name: STEPS,
+    value: "LIST",
+    help: "Make each mesh by these steps instead, and report what goes wrong, such as 'copy protect remap unprotect release'",
+};
+
+pub(crate) const ANY: NumberRange = NumberRange {
+    name: "any",
+    least: 0,
+    most: 1000,
+};
+
+const ANY_OPTION: NumberOption = NumberOption {
+    range: ANY,
+    value: "N",
+    help: "Let a client give up to N commands of any kind instead of the job's workers, and report what goes wrong, 0 to 1000",
+};
+
 pub(crate) const EXPECT: &str = "expect";
 
 const EXPECT_OPTION: TextOption = TextOption {
@@ -502,14 +525,15 @@ pub(crate) const THREADS: Subcommand = Subcommand {
     ],
 };
 
-/// Examples of `explore`: a listing, and a verdict of each kind.
+/// Examples of `explore`: a listing, a verdict of each kind, and a report on a list of steps.
 const EXPLORE_EXAMPLES: &str = "\
 Examples:
   meshrun explore jobs/explore/store_and_copy.job --mesh 1:0
   meshrun explore jobs/explore/store_and_copy.job --mesh 1:0 --expect jobs/explore/store_and_copy.out
   meshrun explore jobs/explore/store_and_copy.job --mesh 1:0 --never '0: done | bytes 00 & 1: bytes 00'
   meshrun explore jobs/explore/store_and_copy.job --mesh 1:0 --always '0: done | bytes aa'
-  meshrun explore jobs/explore/store_and_copy.job --mesh 1:0 --exists '1: bytes 00'";
+  meshrun explore jobs/explore/store_and_copy.job --mesh 1:0 --exists '1: bytes 00'
+  meshrun explore jobs/explore/store_and_copy.job --mesh 1:0 --any 2 --steps 'copy protect remap unprotect release'";
 
 /// The subcommand `explore`.
 pub(crate) const EXPLORE: Subcommand = Subcommand {
@@ -527,6 +551,8 @@ pub(crate) const EXPLORE: Subcommand = Subcommand {
         Argument::Texts(NEVER_OPTION),
         Argument::Texts(ALWAYS_OPTION),
         Argument::Texts(EXISTS_OPTION),
+        Argument::Text(STEPS_OPTION),
+        Argument::Optional(ANY_OPTION),
         Argument::Flag(
             ALLOW_NO_MESH,
             "Let a verdict be positive although some mesh begins in no interleaving",

@@ -2,21 +2,58 @@
 ghost use Rattle.std.specs.Prelude.{◌≡◌, option_map};
 ghost use Rattle.clap.specs.Words.{found_of, rows_of};
 ghost use Rattle.run_command_line.specs.Conditions.{ConditionTexts, conditions_of};
-ghost use Rattle.run_command_line.specs.CommandLine.{asks_verdict, number_of, shown_answer_of, shown_behind, shown_given_in, shown_of_text, told_by, told_in, told_of};
+ghost use Rattle.run_command_line.specs.CommandLine.{asks_verdict, listing_told_in, number_of, other_list, shown_answer_of, shown_behind, shown_given_in, shown_of_text, told_by, told_in, told_of, told_with};
 
-use crate::options::{EXPECT, SHOW, WITNESS};
+use crate::options::{ANY, EXPECT, RIGHT_STEPS, SHOW, STEPS, WITNESS};
 use crate::values::{BETWEEN, number_if_given, spelt_number};
-use crate::{Conditions, ShownArgs, Told};
+use crate::{Conditions, ShownArgs, StepsArgs, Told};
 use clap::ArgMatches;
 
 /// The greatest number of a line in an option.
 const LAST_LINE: u64 = 4294967295;
 
-/// Returns the selection of what an exploration prints. Returns `None` if more than one of an outcome, an answer and a
-/// verdict is asked for, or if the outcome or the answer can't be read.
+/// Returns the selection of what an exploration prints. Returns `None` if more than one of an outcome, an answer, a
+/// verdict and a report on steps is asked for, or if a number or the answer can't be read.
 pub(crate) fn told<'a>(matches: &ArgMatches<'a>, conditions: &Conditions<'a>) -> Option<Told<'a>>
     ensures { option_map (told_of (conditions_of conditions.now)) result
         ≡ told_in (conditions_of conditions.now) (rows_of (found_of matches.now)) }
+{
+    let told = listing_told(matches, conditions)?;
+    let commands = number_if_given(matches, ANY)?;
+    told_with(other_list(matches.get_str(STEPS)), commands, told)
+}
+
+/// Returns the list of steps that a text names. Returns `None` for the steps of the heap's own meshes.
+fn other_list<'a>(text: Option<&'a str>) -> Option<&'a str>
+    ensures { option_map (λ list. list.now) result ≡ other_list (option_map (λ list. list.now) text.entry) }
+{
+    let list = text?;
+    if list == RIGHT_STEPS {
+        return None;
+    }
+    Some(list)
+}
+
+/// Returns the selection of what an exploration prints, if `told` is asked for of outcomes. A report on steps is
+/// printed if a list of steps or a client is asked for. Returns `None` if `told` asks for something else too.
+fn told_with<'a>(list: Option<&'a str>, commands: Option<u32>, told: Told<'a>) -> Option<Told<'a>>
+    ensures { (conditions : ConditionTexts) → option_map (told_of conditions) result
+        ≡ told_with (option_map (λ list. list.now) list.entry) commands (told_of conditions told.entry) }
+{
+    if list.is_none() && commands.is_none() {
+        return Some(told);
+    }
+    match told {
+        Told::All => Some(Told::Steps(StepsArgs { list, commands })),
+        _ => None,
+    }
+}
+
+/// Returns the selection of what an exploration prints, without a list of steps and a client. Returns `None` if more
+/// than one of an outcome, an answer and a verdict is asked for, or if the outcome or the answer can't be read.
+fn listing_told<'a>(matches: &ArgMatches<'a>, conditions: &Conditions<'a>) -> Option<Told<'a>>
+    ensures { option_map (told_of (conditions_of conditions.now)) result
+        ≡ listing_told_in (conditions_of conditions.now) (rows_of (found_of matches.now)) }
 {
     let witness = number_if_given(matches, WITNESS)?;
     let shown = shown_if_given(matches)?;

@@ -21,6 +21,7 @@ use Rattle.run_program.specs.Conditions.{AreSpelt, unspelt}
 use Rattle.run_program.specs.Seen.{Seen}
 use Rattle.run_program.specs.declared.criteria.Criteria.{Criteria}
 use Rattle.run_program.specs.Status.{status_of_error}
+use Rattle.run_program.specs.Steps.{EndsSteps}
 use Rattle.run_program.specs.declared.verdict_error.VerdictError.{VerdictError}
 use Rattle.run_program.specs.declared.verdict_error.VerdictError.TheVariants.{Explore, NoCondition, NoList, Unmatched}
 use Rattle.explore_verdict.specs.Conditions.{demand_word}
@@ -183,6 +184,7 @@ EndsTold args (told.Outcome number) criteria before after status = EndsListing a
 EndsTold args (told.Answer shown) criteria before after status =
     (asked : Shown) × IsShownOf shown asked × EndsListing args (wanted.Answer asked) before after status
 EndsTold args (told.Verdict expect) criteria before after status = EndsVerdict args criteria before after status
+EndsTold args (told.Steps asked) criteria before after status = EndsSteps args asked before after status
 
 -- how an exploration ends
 abbrev pub EndsExplore : ExploreArgs → Criteria → Seen → Seen → ℕ → Type 0

@@ -13,6 +13,7 @@ pub mod Savings
 pub mod Seen
 pub mod Status
 pub mod StatusLaws
+pub mod Steps
 pub mod Threads
 pub mod Words
 pub mod WordLaws

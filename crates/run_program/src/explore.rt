@@ -8,6 +8,7 @@ ghost use Rattle.run_program.specs.Runs.{IsSound};
 
 use crate::fault_line::{Line, line_of, line_with, number_line};
 use crate::runs::{status_of, tell};
+use crate::steps::steps_run;
 use crate::verdict::verdict_run;
 use crate::{Criteria, Devices, ExploreArgs, ShownArgs, Told};
 use explore_report::{ExploreError, ExploreOptions, Shown, Wanted, explore};
@@ -18,18 +19,19 @@ use text_devices::{Sink, Source};
 
 /// Explores the commands that are left after the plan of the job in the input, writes the report to the output or a
 /// fault to `errors`, and returns the exit status. If a verdict is asked for, it says whether the outcomes meet the
-/// criteria `criteria`. The number of states that were found is reported to `watch`.
+/// criteria `criteria`. If a report on a list of steps is asked for, each mesh is made by these steps. The number of
+/// states that were found is reported to `watch`.
 ///
 /// The status is:
 ///
 /// - 0 if everything was written and, for a verdict, the outcomes meet the criteria;
-/// - 3 for a verdict if the outcomes don't meet the criteria;
+/// - 3 for a verdict if the outcomes don't meet the criteria, and for a report if something is wrong;
 /// - 1 with the line `read fault`, `write fault` or `out of memory`;
 /// - 4 with the line `too many states: more than N; --states raises the limit`;
 /// - 2 with the line `line N: KIND` if the job's text has a fault;
 /// - 2 with `no such outcome` or `no such answer in that phase` if the outcome or the answer that was asked for doesn't
 ///   exist;
-/// - 2 with a line that says which option asks for a verdict that can't be given, and why.
+/// - 2 with a line that says which option asks for a verdict or a report that can't be given, and why.
 ///
 /// After an error nothing is written to the output, unless the output itself failed. If the line can't be written, the
 /// status is the same.
@@ -56,6 +58,7 @@ pub fn explore_run<I: Source, O: Sink, E: Sink, W: Watch>(
             listing_run(alloc, args, &Wanted::Answer(shown), devices, watch)
         }
         Told::Verdict(_) => verdict_run(alloc, args, criteria, devices, watch),
+        Told::Steps(asked) => steps_run(alloc, args, &asked, devices, watch),
     }
 }
 

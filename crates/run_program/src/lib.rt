@@ -27,6 +27,7 @@ mod runs;
 mod savings;
 mod shuffle_words;
 pub mod status_laws;
+mod steps;
 mod threads;
 mod threads_error;
 mod unopened;
@@ -50,8 +51,8 @@ pub use pipes::{Hushed, Piped};
 pub use progress::Progress;
 pub use run_command_line::{
     Args, CheckArgs, Conditions, DrawArgs, ExploreArgs, FiguresForm, LiveArgs, MeshPair, Meshes,
-    PacedArgs, Request, RoundsAsked, SavingsArgs, ShownArgs, Stop, Texts, ThreadsArgs, Told,
-    arguments, request, unread_words,
+    PacedArgs, Request, RoundsAsked, SavingsArgs, ShownArgs, StepsArgs, Stop, Texts, ThreadsArgs,
+    Told, arguments, request, unread_words,
 };
 pub use runs::{replay_echo_run, replay_history_run, replay_run, stop_run, unopened_run};
 pub use savings::savings_run;

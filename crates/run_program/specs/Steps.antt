@@ -1,0 +1,77 @@
+-- What a report on meshes that are made by a list of steps writes, and what was read and written if it stops.
+use Rattle.std.specs.Prelude.{◌≡◌, ◌<◌, ◌≤◌, ◌⊎◌, ℕ, Bool, true, false, List, ◌++◌, Option, Some, None, codes, decimal, map, not, option_map}
+use Rattle.std.specs.Option.{unwrap_or}
+use Rattle.explore_interleavings.specs.declared.pair.MeshPair.{MeshPair}
+use Rattle.explore_otherwise.specs.declared.setting.Pair.{Pair}
+use Rattle.explore_otherwise.specs.Settings.{pair_of}
+use Rattle.model_otherwise.specs.States.{Pair as PairParts}
+use Rattle.otherwise_report.specs.Runs.{HasReported, HasStopped}
+use Rattle.otherwise_report.specs.declared.errors.StepsError.{StepsError}
+use Rattle.otherwise_report.specs.declared.errors.StepsError.TheVariants.{Replay, TooManyStates, Steps, PlanLine}
+use Rattle.otherwise_report.specs.declared.list_fault.ListFault.{ListFault}
+use Rattle.otherwise_report.specs.declared.list_fault.ListFault.TheVariants.{WordCount, NoStep, NotJoined}
+use Rattle.run_command_line.specs.Meshes.{pairs_of}
+use Rattle.run_command_line.specs.declared.explore_args.ExploreArgs.{ExploreArgs}
+use Rattle.run_command_line.specs.declared.explore_args.StepsArgs.{StepsArgs}
+use Rattle.run_program.specs.Runs.{HasFailed, IsDone, IsStoppedFor, Moves, MovesBy, error_text}
+use Rattle.run_program.specs.Seen.{Seen}
+use Rattle.run_program.specs.Status.{status_of_error}
+
+-- the text of the list of steps that is asked for
+abbrev pub list_text : StepsArgs → List ℕ
+list_text asked = unwrap_or (option_map (λ list. list.now) asked.list) (codes "protect copy remap unprotect release")
+
+-- the two groups of a mesh, as an exploration with a list of steps has them
+abbrev pub pair_asked : MeshPair → Pair
+pair_asked pair = record { source = pair.source; destination = pair.destination }
+
+-- the meshes of an exploration
+abbrev pub pairs_asked : ExploreArgs → List PairParts
+pairs_asked args = map pair_of (map pair_asked (pairs_of args.meshes))
+
+-- why a text is no list of steps
+abbrev pub list_fault_text : ListFault → List ℕ
+list_fault_text WordCount = codes "--steps: 1 to 12 words with one space between them"
+list_fault_text (NoStep number) = codes "--steps: word " ++ decimal number ++ codes ": no step"
+list_fault_text (NotJoined number) = codes "--steps: word " ++ decimal number ++ codes ": steps that can't be joined"
+
+-- an error's line, without its end, for an exploration of at most this number of states
+abbrev pub steps_text : ℕ → StepsError → List ℕ
+steps_text states (Replay error) = error_text error
+steps_text states TooManyStates = codes "too many states: more than " ++ decimal states ++ codes "; --states raises the limit"
+steps_text states (Steps fault) = list_fault_text fault
+steps_text states (PlanLine number) = codes "plan line " ++ decimal number ++ codes ": neither an answered run nor a whole mesh"
+
+-- the status of an error that stops a report: 2 if the list of steps or the job can't be used, 4 if there are too many
+-- states, otherwise that of a replay's error
+abbrev pub steps_status : StepsError → ℕ
+steps_status (Replay error) = status_of_error error
+steps_status TooManyStates = 4
+steps_status (Steps fault) = 2
+steps_status (PlanLine number) = 2
+
+-- the device that the error names, if any, has failed
+abbrev pub HasFailedSteps : Bool → Bool → StepsError → Type 0
+HasFailedSteps input output (Replay error) = HasFailed input output error
+HasFailedSteps input output TooManyStates = Unit {0}
+HasFailedSteps input output (Steps fault) = Unit {0}
+HasFailedSteps input output (PlanLine number) = Unit {0}
+
+-- the job was read, and the report was written: whether nothing is wrong
+abbrev pub HasReportedBy : ExploreArgs → StepsArgs → Bool → Moves
+HasReportedBy args asked well left left' written written' =
+    HasReported (list_text asked) (pairs_asked args) asked.commands args.states (not args.allows_no_mesh) left left' written written' well
+
+-- what was read before a report stopped for this error
+abbrev pub HasStoppedSteps : ExploreArgs → StepsArgs → MovesBy StepsError
+HasStoppedSteps args asked left left' written written' error = HasStopped (list_text asked) (pairs_asked args) asked.commands args.states left left' error
+
+-- how a report ends. If the status is 0, nothing is wrong, and each mesh that must begin does so in some interleaving.
+-- Otherwise the status is 3 and something is wrong, or the exploration stopped for an error with this status. The
+-- status is at most 4
+pub record EndsSteps (args : ExploreArgs) (asked : StepsArgs) (before after : Seen) (status : ℕ) : Type 0 where
+  pub done : status ≡ 0 → IsDone (HasReportedBy args asked true) before after
+  pub found : 0 < status → ((status ≡ 3) × IsDone (HasReportedBy args asked false) before after)
+      ⊎ ((error : StepsError) × (status ≡ steps_status error)
+      × IsStoppedFor (steps_text args.states) HasFailedSteps (HasStoppedSteps args asked) before after error)
+  pub small : status ≤ 4
