@@ -25,5 +25,5 @@ cmp jobs/examples/hello.job crates/meshrun/data/hello.job || exit 1
 # A clone may belong to another user than the one who runs this.
 git -c safe.directory='*' diff --exit-code -- crates/model_rows crates/run_tests/src/memory \
     crates/explore_tests/src/tests crates/draw_html/src/template.rt \
-    docs/ARCHITECTURE.md docs/INTERLEAVINGS.md docs/PROOF.md docs/PROOF_COST.md \
+    docs/ARCHITECTURE.md docs/INTERLEAVINGS.md docs/OTHERWISE.md docs/PROOF.md docs/PROOF_COST.md \
     jobs/explore 'jobs/*.echo' 'jobs/*.frames' histories

@@ -299,6 +299,16 @@ wanted=$room/verdict
 set -- --mesh 1:0 --cancel 0 --expect "$outcomes" --never 'worker 1: byte 00'
 spare "$meshrun" explore "$room/no file" "$@"
 refuse_each "meshrun explore --expect" replay_fault "$meshrun" explore jobs/explore/cancelled_at_once.job "$@"
+set -- --mesh 1:0 --steps 'protect copy:once remap+unprotect release' --any 0
+"$meshrun" explore jobs/otherwise/setting_one.job "$@" >"$room/right.report"
+wanted=$room/right.report
+spare "$meshrun" explore "$room/no file" "$@"
+refuse_each "meshrun explore --steps" replay_fault "$meshrun" explore jobs/otherwise/setting_one.job "$@"
+set -- --mesh 1:0 --steps 'protect remap:once'
+"$meshrun" explore jobs/otherwise/load.job "$@" >"$room/wrong.report"
+wanted=$room/wrong.report
+spare "$meshrun" explore "$room/no file" "$@"
+refuse_each "meshrun explore --steps, a wrong list" verdict_fault "$meshrun" explore jobs/otherwise/load.job "$@"
 numbers="--probe 8 --rounds 3 --workers 2 --seed 1 --meshers 2"
 spare "$meshrun" threads "$room/no file" $numbers
 refuse_each "meshrun threads" threads_fault "$meshrun" threads jobs/examples/threads.job $numbers

@@ -1,4 +1,4 @@
-"""The examples of a page: commands that begin with `$ meshrun`, and below each what it prints.
+"""The examples of pages: commands that begin with `$ meshrun`, and below each what it prints.
 
 A command ends with status 0 unless `$ echo $?` behind it shows another."""
 
@@ -8,8 +8,8 @@ import re
 
 from cli.suite import execute
 
-PAGE = pathlib.Path("docs/EXPLORE.md")
-# What the commands of the page read.
+PAGES = pathlib.Path("docs/EXPLORE.md"), pathlib.Path("docs/OTHERWISE.md")
+# What the commands of the pages read.
 FOLDERS = ("jobs", "histories")
 
 
@@ -20,9 +20,10 @@ def cases(suite):
     for folder in FOLDERS:
         (room / folder).symlink_to(pathlib.Path(folder).resolve())
     variables = {"PATH": f"{room}:{os.environ['PATH']}"}
-    for command, printed, status in examples(PAGE.read_text()):
-        shown = execute(["sh", "-c", f"cd {room} && {command} 2>&1"], variables=variables)
-        suite.compare(f"{PAGE}: {command}", shown, status, printed.encode())
+    for page in PAGES:
+        for command, printed, status in examples(page.read_text()):
+            shown = execute(["sh", "-c", f"cd {room} && {command} 2>&1"], variables=variables)
+            suite.compare(f"{page}: {command}", shown, status, printed.encode())
 
 
 def examples(text):

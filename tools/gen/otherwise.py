@@ -1,0 +1,106 @@
+#!/usr/bin/env python3
+"""Writes the table of docs/OTHERWISE.md: what goes wrong if a list of steps differs from that of the heap's own meshes.
+
+    tools/gen/otherwise.py
+
+It builds the engine of tools/engines/otherwise and explores each list with a client of 0, 1, 2 and 3 commands, until
+something is wrong. `cli.sh` compares the program's reports with those of this engine.
+
+The status is 1 if the engine can't be built, or if a list of the second table has a fault. Run it from the top of the
+repository; what it writes is committed. It needs g++.
+"""
+
+import itertools
+import pathlib
+import subprocess
+import sys
+import tempfile
+
+DOCUMENT = pathlib.Path("docs/OTHERWISE.md")
+BEGIN, END = "<!-- written by tools/gen/otherwise.py -->", "<!-- end of what it wrote -->"
+ONE, TWO_SPANS, TIGHT = (f"jobs/otherwise/setting_{name}.job" for name in ("one", "two_spans", "tight"))
+MOST = 3
+
+# What is different, the list, and the setting.
+WRONG = [
+    ("no `protect`", "copy remap unprotect release", ONE),
+    ("`copy` first", "copy protect remap unprotect release", ONE),
+    ("no `copy`", "protect remap unprotect release", ONE),
+    ("`copy` behind `remap`", "protect remap copy unprotect release", ONE),
+    ("no `remap`", "protect copy unprotect release", ONE),
+    ("`unprotect` before `remap`", "protect copy unprotect remap release", ONE),
+    ("`unmap` before `remap`", "protect copy unmap remap unprotect release", ONE),
+    ("no `unprotect`", "protect copy remap release", ONE),
+    ("`unprotect` first", "unprotect protect copy remap release", ONE),
+    ("`release` before `remap`", "protect copy release remap unprotect", ONE),
+    ("no `release`", "protect copy remap unprotect", ONE),
+    ("merged, and the slots looked at before", "look protect merge copy remap unprotect release", ONE),
+    ("`unprotect` before `remap`, two spans", "protect copy unprotect remap release", TWO_SPANS),
+]
+RIGHT = [
+    ("`release` before `unprotect`", "protect copy remap release unprotect"),
+    ("`remap` and `unprotect` in one move", "protect copy remap+unprotect release"),
+    ("each phase in one move", "protect:once copy:once remap:once unprotect:once release:once"),
+    ("copied once more before", "copy protect copy remap unprotect release"),
+    ("the slots looked at once", "look protect copy remap unprotect release"),
+    ("merged first", "merge protect copy remap unprotect release"),
+    ("hidden instead of protected", "hide copy remap unprotect release"),
+    ("hidden, and remapped before the copy", "hide remap copy unprotect release"),
+]
+
+
+def main():
+    with tempfile.TemporaryDirectory() as room:
+        engine = pathlib.Path(room) / "reference"
+        source = "tools/engines/otherwise/reference.cpp"
+        if subprocess.run(["g++", "-O2", "-std=c++20", "-o", engine, source]).returncode:
+            return 1
+        rows = ["| Otherwise | List | Commands | What goes wrong | Shortest plan |", "|---|---|---|---|---|"]
+        rows += [wrong_row(engine, *row) for row in WRONG]
+        rows += ["", f"Nothing is wrong with up to {MOST} commands in `setting_one.job`, `setting_tight.job` (two physical pages)"]
+        rows += ["and `setting_two_spans.job` with these lists:", "", "| Otherwise | List |", "|---|---|"]
+        rows += [right_row(engine, *row) for row in RIGHT]
+    text = DOCUMENT.read_text()
+    front, rest = text.split(BEGIN + "\n", 1)
+    DOCUMENT.write_text("\n".join([front + BEGIN, "", *rows, "", END]) + rest.split(END, 1)[1])
+    return 0
+
+
+def report(engine, steps, job, commands):
+    """The status and the lines of a report."""
+    words = [engine, job, "--mesh", "1:0", "--steps", steps, "--any", str(commands), "--states", "10000000"]
+    done = subprocess.run(words, capture_output=True, text=True)
+    return done.returncode, done.stdout.splitlines()
+
+
+def wrong_row(engine, otherwise, steps, job):
+    """The row of a list with a fault: the wrong answer with the fewest commands, or else another fault, and its plan."""
+    reports = [report(engine, steps, job, commands) for commands in range(MOST + 1)]
+    wrong = [commands for commands, (status, _) in enumerate(reports) if status == 3]
+    answered = [commands for commands in wrong if reports[commands][1][2].startswith("wrong answer: ")]
+    if not wrong:
+        sys.exit(f"{steps}: nothing is wrong")
+    commands = (answered or wrong)[0]
+    head, _, *rest = reports[commands][1][2:]
+    plan = [shown(row.strip()) for row in itertools.takewhile(lambda row: row[0] == " ", rest)]
+    told = head.removeprefix("wrong answer: client: ")
+    return f"| {otherwise} | `{steps}` | {commands} | {told} | {'; '.join(plan)} |"
+
+
+def shown(row):
+    """A line of a plan in the table: a command is bold."""
+    command = row.removeprefix("client: ")
+    return row.removeprefix("mesh 1:0 ") if command == row else f"**{command}**"
+
+
+def right_row(engine, otherwise, steps):
+    """The row of a list without a fault."""
+    for job in (ONE, TIGHT, TWO_SPANS):
+        status, lines = report(engine, steps, job, MOST)
+        if status != 0:
+            sys.exit(f"{steps}: {lines}")
+    return f"| {otherwise} | `{steps}` |"
+
+
+if __name__ == "__main__":
+    sys.exit(main())

@@ -1,0 +1,113 @@
+"""Reports on meshes that are made by a list of steps, compared with those of another engine."""
+
+import pathlib
+import random
+
+from cli.suite import NOTHING, execute, lines
+
+JOBS = pathlib.Path("jobs/otherwise")
+LISTS = (JOBS / "lists.txt").read_text().splitlines()
+WORDS = "protect hide copy remap unmap unprotect release merge look".split()
+RIGHT = "protect copy remap unprotect release"
+RANDOM_RUNS = 120
+# The greatest number of states of a random exploration.
+STATES = 4000
+
+
+def cases(suite):
+    engine = suite.room / "otherwise"
+    flags = "-O2", "-std=c++20", "-Wall", "-Wextra", "-Werror"
+    suite.compare("steps: another engine", execute(["g++", *flags, "-o", engine, "tools/engines/otherwise/reference.cpp"]))
+    for job in sorted(JOBS.glob("*.job")):
+        for steps in LISTS:
+            compare(suite, engine, job, *meshes_of(job), "--steps", steps)
+    for job in sorted(JOBS.glob("setting_*.job")):
+        for steps in LISTS:
+            compare(suite, engine, job, *meshes_of(job), "--steps", steps, "--any", 2)
+    at_random(suite, engine)
+
+
+def meshes_of(job):
+    """The options of a job: those in its .args file, or one mesh."""
+    options = job.with_suffix(".args")
+    return options.read_text().split() if options.exists() else ["--mesh", "1:0"]
+
+
+def compare(suite, engine, job, *words):
+    """Both engines print the same report on a job, or the same fault."""
+    wanted = execute([engine, job, *words])
+    name = f"steps: {job.stem} {' '.join(map(str, words))}"
+    suite.check(name, wanted.status, wanted.output, wanted.errors, "explore", job, *words)
+    return wanted
+
+
+def at_random(suite, engine):
+    """Random lists on random jobs, and the steps of the heap's own meshes on the same jobs: then nothing is wrong, and
+    there are as many interleavings as in the listing of the job.
+    """
+    numbers = random.Random(1)
+    for run in range(RANDOM_RUNS):
+        job = suite.write(f"random{run}.job", lines(random_job(numbers)))
+        words = "--mesh", "1:0", "--states", STATES
+        client = ["--any", numbers.randint(0, 3)] if numbers.random() < 0.4 else []
+        compare(suite, engine, job, *words, "--steps", random_list(numbers), *client)
+        right = compare(suite, engine, job, *words, "--steps", RIGHT)
+        listing = suite.run("explore", job, *words)
+        if right.status in (0, 3) and listing.status == 0:
+            counted = listing.rows[0].split(" states ")[0].removeprefix("interleavings ")
+            last = f"nothing wrong: {counted} interleavings"
+            suite.report(f"steps: random job {run}, the right list", [] if right.rows[-1] == last else [right.rows[-1]])
+
+
+def random_list(numbers):
+    """A list of steps near the right one, or any list."""
+    words = RIGHT.split() if numbers.random() < 0.6 else numbers.choices(WORDS, k=numbers.randint(1, 6))
+    for _ in range(numbers.randint(0, 2)):
+        change = numbers.randrange(4)
+        place = numbers.randrange(len(words))
+        if change == 0:
+            words.insert(place, numbers.choice(WORDS))
+        elif change == 1 and len(words) > 1:
+            words.pop(place)
+        elif change == 2:
+            words.append(words.pop(place))
+        else:
+            words[place] += "" if ":" in words[place] else ":once"
+    return " ".join(words)
+
+
+def random_job(numbers):
+    """A job whose plan fills two or three spans of a class and frees most of their objects."""
+    size, slots = numbers.choice([(2048, 2), (1024, 4), (1500, 8)])
+    count = slots * 2 + numbers.randint(0, 2)
+    setting = [f"new {cell} {numbers.randint(size - 20, size)} {numbers.randrange(8)}" for cell in range(count)]
+    kept = numbers.sample(range(count), numbers.randint(1, 3))
+    setting += [f"free {cell}" for cell in range(count) if cell not in kept]
+    setting += [f"put {cell} {offset_in(numbers, size)} {numbers.randint(1, 255):02x}" for cell in kept]
+    workers = numbers.randint(1, 2)
+    scripts = [[random_command(numbers, kept, size) for _ in range(numbers.randint(0, 3))] for _ in range(workers)]
+    scripts[0] = setting + scripts[0]
+    version = 2 if any("copy" in row for script in scripts for row in script) else numbers.randint(1, 2)
+    head = [f"mesh {version}", f"pages {numbers.choice([4, 6, 9, 16])}", "history 64", f"workers {workers}"]
+    sections = [row for worker, script in enumerate(scripts) for row in [f"worker {worker}", *script]]
+    return [*head, *sections, "plan", *["run 0"] * len(setting), "end"]
+
+
+def offset_in(numbers, size):
+    """An offset in an object of about this size, often the first one."""
+    return numbers.choice([0, 0, numbers.randrange(size - 20)])
+
+
+def random_command(numbers, cells, size):
+    """A command on objects of these cells, or on a new object."""
+    cell = numbers.choice([*cells, 200])
+    return numbers.choice(
+        [
+            f"put {cell} {offset_in(numbers, size)} {numbers.randint(0, 255):02x}",
+            f"get {cell} {offset_in(numbers, size)} 1",
+            f"free {cell}",
+            f"new 200 {size} {numbers.randrange(4)}",
+            f"copy {cell} 0 {numbers.choice(cells)} 0 {numbers.randint(1, 8)}",
+            f"addr {cell}",
+        ]
+    )
