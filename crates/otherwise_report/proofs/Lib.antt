@@ -6,6 +6,7 @@ pub mod ClientSteps
 pub mod CountedEnds
 pub mod Drops
 pub mod NearestStates
+pub mod NearestStuck
 pub mod PhaseLists
 pub mod ReportMeanings
 pub mod Sections

@@ -1,5 +1,5 @@
 -- What a report means: nothing is overlooked, and each plan is a shortest one.
-use Rattle.std.proofs.Common.{◌≡◌, ℕ, ◌<◌, ◌≤◌, List, [], ◌∷◌, Option, Some, None, ap, length, map, slice_get, subst, sym, ◌∙◌, arith}
+use Rattle.std.proofs.Common.{◌≡◌, ℕ, ◌<◌, ◌≤◌, true, false, List, [], ◌∷◌, Option, Some, None, ap, length, map, slice_get, subst, sym, ◌∙◌, arith}
 use Rattle.std.specs.Option.{option_map_or}
 use Rattle.std.proofs.lemmas.Option.{slice_get_within}
 use Rattle.explore_otherwise.proofs.FirstFindings.{got}
@@ -13,7 +13,8 @@ use Rattle.model_otherwise.specs.States.{Setting, State, after, asks, fault_at, 
 use Rattle.model_otherwise.specs.declared.fault.Fault.{Fault}
 use Rattle.model_otherwise.specs.declared.fault.FaultKind.{FaultKind}
 use Rattle.model_otherwise.specs.declared.tried.Tried.{Tried}
-use Rattle.otherwise_report.specs.Nearest.{IsNearestFault, IsNearestWrong, moves_to}
+use Rattle.otherwise_report.specs.Nearest.{AreFreeBelow, IsNearestFault, IsNearestStuck, IsNearestWrong, is_stuck, moves_to}
+use Rattle.otherwise_report.specs.declared.nearest.FoundStuck.{FoundStuck}
 use Rattle.states_reach.specs.Reach.{IsKept, IsPath, IsReachable, IsTrail, LeadsTo, after_all, going_on}
 use Rattle.states_reach.specs.declared.margins.Margins.{Margins}
 use Rattle.states_reach.specs.declared.origin.Origin.{Origin}
@@ -38,6 +39,14 @@ no_answer_overlooked x start s reached n explored none reachable few =
     let kept = kept_of x start s reached explored reachable in
     let right = none kept.0 s (slice_get_within reached.system.states kept.0 s kept.1) kept.1 in
     subst (λ (y : Setting). AreRightBelow y s (asks y.asking)) explored.setting right n few
+
+-- without a reported command that is blocked for ever, none is in a reachable state
+pub no_stuck_overlooked : (x : Setting) (start s : State) (reached : Reached Explorer) (n : ℕ)
+    → IsExplored x start reached → IsNearestStuck reached None → IsReachable (after x) (moves x) start s → n < asks x.asking → is_stuck x s n ≡ false
+no_stuck_overlooked x start s reached n explored none reachable few =
+    let kept = kept_of x start s reached explored reachable in
+    let free = none kept.0 s (slice_get_within reached.system.states kept.0 s kept.1) kept.1 in
+    subst (λ (y : Setting). AreFreeBelow y s (asks y.asking)) explored.setting free n few
 
 -- the moves of a trail lead from the state in which it begins to the state in which it ends
 trail_leads : {S : Type 0} → (after : S → ℕ → Option S) (moves : ℕ) (states : List S) (at : ℕ) (trail : List Origin) (place : ℕ) (from to : S)
@@ -103,3 +112,16 @@ answer_plan_shortest x start s reached found n tried path plan explored nearest 
     (plan_long x start nearest.state reached found.place plan explored leads nearest.there)
     (path_long x start s reached kept.0 path explored kept.1 is)
     (nearest.nearest kept.0 n s tried (slice_get_within reached.system.states kept.0 s kept.1) kept.1 command wrong)
+
+-- nor one to a state in which a command is blocked for ever
+pub stuck_plan_shortest : (x : Setting) (start s : State) (reached : Reached Explorer) (found : FoundStuck) (n : ℕ) (path : List ℕ) (plan : List Origin)
+    → IsExplored x start reached → IsNearestStuck reached (Some found) → LeadsTo reached.system.states reached.origins.items found.place plan
+    → IsPath (after x) (moves x) start s path → n < asks x.asking → is_stuck x s n ≡ true → length plan ≤ length path
+stuck_plan_shortest x start s reached found n path plan explored nearest leads is few has =
+    let kept = kept_of x start s reached explored (path, is) in
+    let command : n < asks reached.system.setting.asking = subst (λ (y : Setting). n < asks y.asking) (sym explored.setting) few in
+    let stuck : is_stuck reached.system.setting s n ≡ true = subst (λ (y : Setting). is_stuck y s n ≡ true) (sym explored.setting) has in
+    no_longer (length plan) (length path) (moves_to reached.margins.items found.place) (moves_to reached.margins.items kept.0)
+    (plan_long x start nearest.state reached found.place plan explored leads nearest.there)
+    (path_long x start s reached kept.0 path explored kept.1 is)
+    (nearest.nearest kept.0 n s (slice_get_within reached.system.states kept.0 s kept.1) kept.1 command stuck)

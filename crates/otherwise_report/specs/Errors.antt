@@ -5,7 +5,6 @@ use Rattle.otherwise_report.specs.declared.errors.StepsError.TheVariants.{Replay
 use Rattle.otherwise_report.specs.declared.list_fault.ListFault.{ListFault}
 use Rattle.states_reach.specs.declared.faults.ReachError.{ReachError}
 use Rattle.states_reach.specs.declared.faults.ReachError.TheVariants.{TooMany, Memory as ReachMemory}
-use Rattle.text_devices.specs.declared.faults.ReplayError.{ReplayError}
 use Rattle.text_devices.specs.declared.faults.ReplayError.TheVariants.{Read, Write, Text, Memory}
 
 -- the error of an exploration that is out of memory

@@ -1,5 +1,5 @@
 -- The words of steps, and the lists of steps that a text spells. This project's own choice.
-use Rattle.std.specs.Prelude.{◌≡◌, ℕ, ◌+◌, ◌≤◌, Bool, true, false, ◌&&◌, ◌||◌, if◌then◌else◌, nat_eq, nat_le, List, [], ◌∷◌, ◌++◌, Option, Some, None, Result, Ok, Err, codes, find, length, map, option_and_then, option_map}
+use Rattle.std.specs.Prelude.{ℕ, ◌+◌, Bool, true, false, ◌&&◌, ◌||◌, if◌then◌else◌, nat_eq, nat_le, List, [], ◌∷◌, Option, Some, None, Result, Ok, Err, codes, find, length, map, option_and_then, option_map}
 use Rattle.std.specs.List.{list_all, list_any, slice_split}
 use Rattle.model_jobs.specs.JobFiles.{are_same, is_empty}
 use Rattle.model_otherwise.specs.Moves.{Phase}
