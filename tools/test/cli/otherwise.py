@@ -18,13 +18,24 @@ def cases(suite):
     engine = suite.room / "otherwise"
     flags = "-O2", "-std=c++20", "-Wall", "-Wextra", "-Werror"
     suite.compare("steps: another engine", execute(["g++", *flags, "-o", engine, "tools/engines/otherwise/reference.cpp"]))
+    reports = []
     for job in sorted(JOBS.glob("*.job")):
         for steps in LISTS:
-            compare(suite, engine, job, *meshes_of(job), "--steps", steps)
+            reports.append(compare(suite, engine, job, *meshes_of(job), "--steps", steps))
     for job in sorted(JOBS.glob("setting_*.job")):
         for steps in LISTS:
-            compare(suite, engine, job, *meshes_of(job), "--steps", steps, "--any", 2)
-    at_random(suite, engine)
+            reports.append(compare(suite, engine, job, *meshes_of(job), "--steps", steps, "--any", 2))
+    report_kinds(suite, "the lists", reports)
+    faults = [f"status {report.status}" for report in reports if report.status not in (0, 3)]
+    suite.report("steps: each list has a report on each job", faults)
+    report_kinds(suite, "random jobs", at_random(suite, engine))
+
+
+def report_kinds(suite, name, reports):
+    """Some reports are that nothing is wrong and some that something is, both of meshes that begin."""
+    begun = [report for report in reports if b"no interleaving begins" not in report.output]
+    statuses = {report.status for report in begun}
+    suite.report(f"steps: {name}: right and wrong ones", [] if {0, 3} <= statuses else [f"statuses {statuses}"])
 
 
 def meshes_of(job):
@@ -43,20 +54,23 @@ def compare(suite, engine, job, *words):
 
 def at_random(suite, engine):
     """Random lists on random jobs, and the steps of the heap's own meshes on the same jobs: then nothing is wrong, and
-    there are as many interleavings as in the listing of the job.
+    there are as many interleavings as in the listing of the job. Returns all reports.
     """
+    reports = []
     numbers = random.Random(1)
     for run in range(RANDOM_RUNS):
         job = suite.write(f"random{run}.job", lines(random_job(numbers)))
         words = "--mesh", "1:0", "--states", STATES
         client = ["--any", numbers.randint(0, 3)] if numbers.random() < 0.4 else []
-        compare(suite, engine, job, *words, "--steps", random_list(numbers), *client)
+        reports.append(compare(suite, engine, job, *words, "--steps", random_list(numbers), *client))
         right = compare(suite, engine, job, *words, "--steps", RIGHT)
+        reports.append(right)
         listing = suite.run("explore", job, *words)
         if right.status in (0, 3) and listing.status == 0:
             counted = listing.rows[0].split(" states ")[0].removeprefix("interleavings ")
             last = f"nothing wrong: {counted} interleavings"
             suite.report(f"steps: random job {run}, the right list", [] if right.rows[-1] == last else [right.rows[-1]])
+    return reports
 
 
 def random_list(numbers):
