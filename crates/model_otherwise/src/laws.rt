@@ -1,8 +1,8 @@
 //! Laws of the definitions. Each is the contract of a function that does nothing.
 ghost use Rattle.model_otherwise.specs.AnswerLaws.{AnswersArePlain, WrongAnswersAreWrong};
-ghost use Rattle.model_otherwise.specs.MoveLaws.{RightMovesAreTheHeaps, RightMovesEnd};
+ghost use Rattle.model_otherwise.specs.MoveLaws.{LimitsEndPhases, PagesComeOneByOne, PagesGoThroughMembers, PiecesCoverSlots, RightMovesAreTheHeaps, RightMovesEnd};
 ghost use Rattle.model_otherwise.specs.SpotLaws.{CopiedBytesAreFound, CopiesChangeNoOther, StoredBytesAreFound, StoresChangeNoOther, ZeroedBytesAreZero, ZeroesChangeNoOther};
-ghost use Rattle.model_otherwise.specs.StepLaws.{AccessesAreAllowed, CopiesObjects, LooksOnce, MergesGroups, ProtectsOnePage, ReleasesOnePage, RemapsOnePage};
+ghost use Rattle.model_otherwise.specs.StepLaws.{AccessesAreAllowed, CopiesObjects, CopiesPieces, GoesThroughPages, LooksOnce, MergesGroups, OpensGroups, ProtectsOnePage, ReleasesOnePage, RemapsOnePage};
 
 /// An example of each step, which a slip in the step's effect contradicts.
 #[tactic(auto, unfolding(model_words::specs::Classes::pages_of, model_words::specs::Classes::slots_of))]
@@ -10,10 +10,27 @@ pub fn steps_have_effects()
     ensures protects { ProtectsOnePage }
     ensures remaps { RemapsOnePage }
     ensures copies { CopiesObjects }
+    ensures pieces { CopiesPieces }
     ensures releases { ReleasesOnePage }
     ensures merges { MergesGroups }
+    ensures opens { OpensGroups }
     ensures looks { LooksOnce }
     ensures accesses { AccessesAreAllowed }
+{}
+
+/// An example of the steps in spans of three pages.
+#[tactic(auto, unfolding(model_words::specs::Classes::pages_of, model_words::specs::Classes::slots_of))]
+pub fn steps_go_through_pages()
+    ensures { GoesThroughPages }
+{}
+
+/// Examples of moves for some of the pages, and of pieces.
+#[tactic(auto, unfolding(model_words::specs::Classes::pages_of, model_words::specs::Classes::slots_of))]
+pub fn phases_have_moves()
+    ensures limits { LimitsEndPhases }
+    ensures pages { PagesGoThroughMembers }
+    ensures one_by_one { PagesComeOneByOne }
+    ensures pieces { PiecesCoverSlots }
 {}
 
 /// The moves of the list protect, copy, remap, unprotect, release are the steps of the heap's own meshes, for every

@@ -230,7 +230,7 @@ run_alike x r q s p e k i mesh =
 stage_alike : (x : Setting) (r : ℕ) (q : Asking) (s : State) (p : List ℕ) (e k i : ℕ) (pair : Pair) (stage : Stage)
     → mesher_at (with_asking r q x) (with_counts p e k s) i pair stage ≡ option_map (with_counts p e (k + 1)) (mesher_at x s i pair stage)
 stage_alike x r q s p e k i pair Before = ap (λ (t : State). Some t)
-    (begun_alike s p e k i (begin (is_busy_for x.version s.stages (group_of s.heap pair.source)) s.memory s.heap pair.source pair.destination))
+    (begun_alike s p e k i (begin x.checked (is_busy_for x.version s.stages (group_of s.heap pair.source)) s.memory s.heap pair.source pair.destination))
 stage_alike x r q s p e k i pair IsRefused = refl
 stage_alike x r q s p e k i pair (Running mesh) = run_alike x r q s p e k i mesh
 stage_alike x r q s p e k i pair Over = refl

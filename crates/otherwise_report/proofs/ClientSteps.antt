@@ -152,18 +152,18 @@ command_step x y a b u n client made alike room = elim (tells (is_refusal made.r
 ]
 
 -- a setting with these parts
-abbrev setting_in : List Phase → ℕ → Version → ℕ → Asking → List Pair → Setting
-setting_in f p v r q i = record { phases = f; pages = p; version = v; room = r; asking = q; pairs = i }
+abbrev setting_in : List Phase → Bool → ℕ → Version → ℕ → Asking → List Pair → Setting
+setting_in f c p v r q i = record { phases = f; checked = c; pages = p; version = v; room = r; asking = q; pairs = i }
 
 -- settings with the same parts are equal
-same_setting : (f g : List Phase) (p q : ℕ) (v w : Version) (i j : List Pair) (r : ℕ) (k : Asking) → f ≡ g → p ≡ q → v ≡ w → i ≡ j
-    → setting_in f p v r k i ≡ setting_in g q w r k j
-same_setting f g p q v w i j r k a b c d = cc
+same_setting : (f g : List Phase) (s t : Bool) (p q : ℕ) (v w : Version) (i j : List Pair) (r : ℕ) (k : Asking) → f ≡ g → s ≡ t → p ≡ q → v ≡ w → i ≡ j
+    → setting_in f s p v r k i ≡ setting_in g t q w r k j
+same_setting f g s t p q v w i j r k a e b c d = cc
 
 -- the client's setting is that of the workers, with another asking
 client_setting : (x y : Setting) → HasClientFor x y → y ≡ with_asking y.room y.asking x
-client_setting x y client = same_setting y.phases x.phases y.pages x.pages y.version x.version y.pairs x.pairs y.room y.asking
-    client.phases client.pages client.version client.pairs
+client_setting x y client = same_setting y.phases x.phases y.checked x.checked y.pages x.pages y.version x.version y.pairs x.pairs y.room y.asking
+    client.phases client.checked client.pages client.version client.pairs
 
 -- a state with these parts
 abbrev state_in : Memory → Heap → List Stage → List ℕ → ℕ → ℕ → State

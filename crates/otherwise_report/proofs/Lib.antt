@@ -7,9 +7,7 @@ pub mod CountedEnds
 pub mod Drops
 pub mod NearestStates
 pub mod NearestStuck
-pub mod PhaseLists
 pub mod ReportMeanings
 pub mod Sections
 pub mod ToldRuns
-pub mod WordParts
 pub mod Written

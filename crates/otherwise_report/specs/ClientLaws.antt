@@ -18,6 +18,7 @@ pub record HasClientFor (x y : Setting) : Type 0 where
   pub client : y.asking ≡ Client commands
   pub among : AreAmong scripts commands
   pub phases : y.phases ≡ x.phases
+  pub checked : y.checked ≡ x.checked
   pub pages : y.pages ≡ x.pages
   pub version : y.version ≡ x.version
   pub pairs : y.pairs ≡ x.pairs

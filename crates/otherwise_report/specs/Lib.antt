@@ -10,3 +10,4 @@ pub mod ReportLaws
 pub mod Reports
 pub mod Runs
 pub mod StepWords
+pub mod StepLists

@@ -14,6 +14,7 @@ mod plan_text;
 mod report;
 mod run;
 mod start;
+mod step_list;
 mod step_words;
 mod whole;
 

@@ -6,10 +6,13 @@ ghost use Rattle.model_otherwise.specs.States.{asked, tried_at};
 ghost use Rattle.model_words.specs.Commands.{IsInRange};
 ghost use Rattle.explore_otherwise.specs.Settings.{asking_of, pair_of, setting_of};
 ghost use Rattle.explore_otherwise.specs.Stages.{stage_of};
-ghost use Rattle.otherwise_report.specs.PlanTexts.{asker_text, attempt_text, mesher_text, move_line, move_name, move_text, pair_text, plan_text, stage_text, text_if, tried_text, word_of, words_of};
+ghost use Rattle.otherwise_report.specs.PlanTexts.{asker_text, attempt_text, mesher_text, move_line, move_name, move_text, pair_text, plan_text, stage_text, text_if, tried_text, words_of};
+ghost use Rattle.otherwise_report.specs.StepWords.{step_name};
 
 use crate::step_words::name_of;
-use explore_otherwise::{Asking, Explorer, Pair, Phase, Setting, Stage, StateAt, move_count};
+use explore_otherwise::{
+    Asking, Explorer, Pair, Phase, Setting, Stage, StateAt, move_count, number_on,
+};
 use explore_pages::Mesh;
 use model_otherwise::{Step, Tried};
 use states_reach::{Origin, Reached};
@@ -176,47 +179,37 @@ fn add_move_name(text: &mut Vec<u8>, phases: &[Phase], mesh: &Mesh) -> Result<()
     for phase in phases {
         let count = move_count(mesh.class, members, phase)?;
         if left < count {
-            add_words(text, false, phase.steps.as_slice())?;
+            let number = number_on(mesh.class.pages(), phase.page, left)?;
+            add_words(text, phase.steps.as_slice())?;
             text.push(b' ')?;
-            return add_decimal(text, u64::from(left) + 1);
+            return add_decimal(text, u64::from(number) + 1);
         }
         left -= count;
     }
     Ok(())
 }
 
-/// Adds the words of steps that are made together, with `+` between them.
-pub(crate) fn add_words(text: &mut Vec<u8>, is_once: bool, steps: &[Step]) -> Result<(), AllocError>
-    ensures { OnOk result (text.new.items ≡ text.old.items ++ words_of is_once steps.now) }
+/// Adds the names of steps that are made together, with `+` between them.
+fn add_words(text: &mut Vec<u8>, steps: &[Step]) -> Result<(), AllocError>
+    ensures { OnOk result (text.new.items ≡ text.old.items ++ words_of steps.now) }
 {
     match steps {
         [first, others @ ..] => {
-            add_word(text, is_once, *first)?;
-            add_others(text, is_once, others)
+            text.extend_from_slice(name_of(*first))?;
+            add_others(text, others)
         }
         _ => Ok(()),
     }
 }
 
-/// Adds the words of steps, each behind a `+`.
-fn add_others(text: &mut Vec<u8>, is_once: bool, steps: &[Step]) -> Result<(), AllocError>
+/// Adds the names of steps, each behind a `+`.
+fn add_others(text: &mut Vec<u8>, steps: &[Step]) -> Result<(), AllocError>
     ensures { OnOk result (text.new.items
-        ≡ text.old.items ++ flat_map (λ other. 43 ∷ word_of is_once other) steps.now) }
+        ≡ text.old.items ++ flat_map (λ other. 43 ∷ step_name other) steps.now) }
 {
     for step in steps {
         text.push(b'+')?;
-        add_word(text, is_once, *step)?;
-    }
-    Ok(())
-}
-
-/// Adds the word of a step.
-fn add_word(text: &mut Vec<u8>, is_once: bool, step: Step) -> Result<(), AllocError>
-    ensures { OnOk result (text.new.items ≡ text.old.items ++ word_of is_once step) }
-{
-    text.extend_from_slice(name_of(step))?;
-    if is_once {
-        text.extend_from_slice(b":once")?;
+        text.extend_from_slice(name_of(*step))?;
     }
     Ok(())
 }

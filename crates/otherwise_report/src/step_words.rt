@@ -1,22 +1,19 @@
-//! The words of steps, and the lists of steps that a text spells.
-ghost use Rattle.std.specs.Prelude.{◌≡◌, ◌-◌, ◌^◌, ◌<◌, ◌++◌, ◌∷◌, [], Err, IfErr, IfOk, Ok, OnOk, Some, length, map, option_map};
+//! The words of steps, and the phase that a word of a list of steps spells.
+ghost use Rattle.std.specs.Prelude.{◌≡◌, IfErr, IfOk, Ok, Some, map, option_map};
 ghost use Rattle.std.specs.List.{list_all};
-ghost use Rattle.text_fields.specs.Lines.{texts};
 ghost use Rattle.otherwise_report.specs.Errors.{IsUnspelt};
-ghost use Rattle.otherwise_report.specs.StepWords.{are_joined, is_alike, is_of_pages, parts_between, phase_in, phase_of, phases_from, phases_of, step_in, step_name, step_named, steps_in};
+ghost use Rattle.otherwise_report.specs.StepWords.{are_joined, as_step, bare, is_alike, is_of_pages, is_release, is_same_limit, option_added, options_added, parts_between, phase_in, phase_of, step_in, step_name, step_named, steps_in, with_dirty, with_limit, with_number, with_once, with_one, with_page};
 
 use crate::errors::StepsError;
 use crate::list_fault::ListFault;
 use explore_otherwise::Phase;
 use model_otherwise::Step;
 use std::alloc::{AllocError, Global};
-use text_fields::lines::{cut, fields_up_to, is_word};
+use text_fields::lines::{cut, is_word};
+use text_fields::numbers::number32;
 
-/// The greatest number of words of a list of steps.
-const MAX_WORDS: usize = 12;
-
-/// Each step once.
-const STEPS: [Step; 9] = [
+/// Each step without options once.
+const STEPS: [Step; 10] = [
     Step::Protect,
     Step::Hide,
     Step::Copy,
@@ -25,6 +22,7 @@ const STEPS: [Step; 9] = [
     Step::Unprotect,
     Step::Release,
     Step::Merge,
+    Step::Open,
     Step::Look,
 ];
 
@@ -33,46 +31,14 @@ const STEPS: [Step; 9] = [
 pub struct StepWord {
     /// The step.
     pub step: Step,
+    /// The greatest number of pages for which the step is made, if there is a limit.
+    pub most: Option<u32>,
     /// Whether the step is made for all numbers at once.
     pub is_once: bool,
 }
 
-/// Returns the phases that a text spells. The text has 1 to 12 words with one space between them. A word has steps with
-/// `+` between them, and a step may have `:once` behind its name.
-pub(crate) fn phases_of(alloc: Global, text: &[u8]) -> Result<Vec<Phase>, StepsError>
-    ensures ok { IfOk result (λ phases. phases_of text.now ≡ Ok phases.items) }
-    ensures fault { IfErr result (IsUnspelt (phases_of text.now)) }
-{
-    let Ok(words) = fields_up_to::<MAX_WORDS>(text) else {
-        return Err(StepsError::Steps(ListFault::WordCount));
-    };
-    phases_in(alloc, words.as_slice())
-}
-
-/// Returns the phases that words spell.
-fn phases_in(alloc: Global, words: &[&[u8]]) -> Result<Vec<Phase>, StepsError>
-    requires { length words.now < 2 ^ 32 - 1 }
-    ensures ok { IfOk result (λ phases. phases_from 1 (texts words.now) ≡ Ok phases.items) }
-    ensures fault { IfErr result (IsUnspelt (phases_from 1 (texts words.now))) }
-{
-    let mut phases = Vec::new(alloc);
-    for number in 0..words.len() {
-        let phase = phase_in(alloc, number as u32 + 1, words[number])?;
-        add_phase(&mut phases, phase)?;
-    }
-    Ok(phases)
-}
-
-/// Appends a phase.
-fn add_phase(phases: &mut Vec<Phase>, phase: Phase) -> Result<(), AllocError>
-    ensures { OnOk result (phases.new.items ≡ phases.old.items ++ phase ∷ []) }
-{
-    phases.push(phase)?;
-    Ok(())
-}
-
 /// Returns the phase that a word spells. The word has this number in its list.
-fn phase_in(alloc: Global, number: u32, word: &[u8]) -> Result<Phase, StepsError>
+pub(crate) fn phase_in(alloc: Global, number: u32, word: &[u8]) -> Result<Phase, StepsError>
     ensures ok { IfOk result (λ phase. phase_in number word.now ≡ Ok phase) }
     ensures fault { IfErr result (IsUnspelt (phase_in number word.now)) }
 {
@@ -115,6 +81,8 @@ fn phase_of(alloc: Global, number: u32, words: &[StepWord]) -> Result<Phase, Ste
     }
     Ok(Phase {
         steps: steps_of(alloc, words)?,
+        most: first.most,
+        page: None,
         is_once: first.is_once,
     })
 }
@@ -137,7 +105,7 @@ fn are_joined(first: &StepWord, others: &[StepWord]) -> bool
     if others.is_empty() {
         return true;
     }
-    is_of_pages(first.step) && are_of_pages(others) && are_alike(first.is_once, others)
+    is_of_pages(first.step) && are_of_pages(others) && are_alike(first, others)
 }
 
 /// Whether each step is made for each virtual page of the source.
@@ -147,15 +115,33 @@ fn are_of_pages(words: &[StepWord]) -> bool
     words.iter().all(|word| is_of_pages(word.step))
 }
 
-/// Whether all steps are made at once, or none.
-fn are_alike(is_once: bool, words: &[StepWord]) -> bool
-    ensures { result ≡ list_all (is_alike is_once) words.now }
+/// Whether each step is made for the same numbers as the first.
+fn are_alike(first: &StepWord, words: &[StepWord]) -> bool
+    ensures { result ≡ list_all (is_alike first.now) words.now }
 {
-    words.iter().all(|word| word.is_once == is_once)
+    words.iter().all(|word| is_alike(first, word))
+}
+
+/// Whether both steps are made for the same numbers.
+fn is_alike(first: &StepWord, word: &StepWord) -> bool
+    ensures { result ≡ is_alike first.now word.now }
+{
+    first.is_once == word.is_once && is_same_limit(first.most, word.most)
+}
+
+/// Whether both limits are the same.
+fn is_same_limit(most: Option<u32>, other: Option<u32>) -> bool
+    ensures { result ≡ is_same_limit most other }
+{
+    match (most, other) {
+        (Some(most), Some(other)) => most == other,
+        (None, None) => true,
+        _ => false,
+    }
 }
 
 /// Whether the step is made for each virtual page of the source.
-fn is_of_pages(step: Step) -> bool
+pub(crate) fn is_of_pages(step: Step) -> bool
     ensures { result ≡ is_of_pages step }
 {
     matches!(
@@ -164,28 +150,147 @@ fn is_of_pages(step: Step) -> bool
     )
 }
 
+/// Whether the step is a release.
+pub(crate) fn is_release(step: Step) -> bool
+    ensures { result ≡ is_release step }
+{
+    matches!(step, Step::Release | Step::ReleaseDirty)
+}
+
+/// Returns a step without options.
+fn bare(step: Step) -> StepWord
+    ensures { result ≡ bare step }
+{
+    StepWord {
+        step,
+        most: None,
+        is_once: false,
+    }
+}
+
+/// Returns the step with another kind.
+fn as_step(step: Step, word: StepWord) -> StepWord
+    ensures { result ≡ as_step step word }
+{
+    StepWord { step, ..word }
+}
+
+/// Returns the step made for all numbers at once, unless it is already.
+fn with_once(word: StepWord) -> Option<StepWord>
+    ensures { result ≡ with_once word }
+{
+    if word.is_once {
+        return None;
+    }
+    Some(StepWord {
+        is_once: true,
+        ..word
+    })
+}
+
+/// Returns the copy that copies page by page, if the step is a copy of slots.
+fn with_page(word: StepWord) -> Option<StepWord>
+    ensures { result ≡ with_page word word.step }
+{
+    match word.step {
+        Step::Copy => Some(as_step(Step::CopyPage, word)),
+        _ => None,
+    }
+}
+
+/// Returns the release that keeps the bytes, if the step is a release that doesn't.
+fn with_dirty(word: StepWord) -> Option<StepWord>
+    ensures { result ≡ with_dirty word word.step }
+{
+    match word.step {
+        Step::Release => Some(as_step(Step::ReleaseDirty, word)),
+        _ => None,
+    }
+}
+
+/// Returns the opening of one group, if the step opens both.
+fn with_one(one: Step, word: StepWord) -> Option<StepWord>
+    ensures { result ≡ with_one one word word.step }
+{
+    match word.step {
+        Step::Open => Some(as_step(one, word)),
+        _ => None,
+    }
+}
+
+/// Returns the step for so many pages at most, if it is made for pages and has no limit yet.
+fn with_limit(number: u32, word: StepWord) -> Option<StepWord>
+    ensures { result ≡ with_limit number word word.most }
+{
+    match word.most {
+        Some(_) => None,
+        None if is_of_pages(word.step) || is_release(word.step) => Some(StepWord {
+            most: Some(number),
+            ..word
+        }),
+        None => None,
+    }
+}
+
+/// Returns the step with a number behind it: the bytes of a piece, or a limit.
+fn with_number(number: u32, word: StepWord) -> Option<StepWord>
+    ensures { result ≡ with_number number word word.step }
+{
+    match word.step {
+        Step::Copy => Some(as_step(Step::CopyPiece(number), word)),
+        _ => with_limit(number, word),
+    }
+}
+
+/// Returns the step with an option, if it may have it.
+fn option_added(word: StepWord, option: &[u8]) -> Option<StepWord>
+    ensures { result ≡ option_added option.now word }
+{
+    if is_word(option, b"once") {
+        return with_once(word);
+    }
+    if is_word(option, b"page") {
+        return with_page(word);
+    }
+    if is_word(option, b"dirty") {
+        return with_dirty(word);
+    }
+    if is_word(option, b"src") {
+        return with_one(Step::OpenSource, word);
+    }
+    if is_word(option, b"dst") {
+        return with_one(Step::OpenDestination, word);
+    }
+    match number32(option, 1, u32::MAX) {
+        Ok(number) => with_number(number, word),
+        Err(_) => None,
+    }
+}
+
+/// Returns the step with the options between the bytes `:` of a text, if it may have them.
+fn options_added(word: StepWord, options: &[u8]) -> Option<StepWord>
+    ensures { result ≡ options_added (parts_between 58 options.now) word }
+{
+    let mut word = word;
+    let mut rest = options;
+    while let Some((option, behind)) = cut(rest, b':') {
+        word = option_added(word, option)?;
+        rest = behind;
+    }
+    option_added(word, rest)
+}
+
 /// Returns the step that a word spells, if it spells one.
 fn step_in(word: &[u8]) -> Option<StepWord>
     ensures { result ≡ step_in word.now }
 {
-    let Some((name, option)) = cut(word, b':') else {
-        let step = step_named(word)?;
-        return Some(StepWord {
-            step,
-            is_once: false,
-        });
-    };
-    if !is_word(option, b"once") {
-        return None;
+    match cut(word, b':') {
+        Some((name, options)) => options_added(bare(step_named(name)?), options),
+        None => Some(bare(step_named(word)?)),
     }
-    let step = step_named(name)?;
-    Some(StepWord {
-        step,
-        is_once: true,
-    })
 }
 
-/// Returns the step of a word, if there is one.
+/// Returns the step of a name, if there is one.
 fn step_named(word: &[u8]) -> Option<Step>
     ensures { result ≡ step_named word.now }
 {
@@ -197,19 +302,20 @@ fn step_named(word: &[u8]) -> Option<Step>
     None
 }
 
-/// Returns the word of a step.
+/// Returns the name of a step.
 pub(crate) fn name_of(step: Step) -> &'static [u8]
     ensures { result.now ≡ step_name step }
 {
     match step {
         Step::Protect => b"protect",
         Step::Hide => b"hide",
-        Step::Copy => b"copy",
+        Step::Copy | Step::CopyPiece(_) | Step::CopyPage => b"copy",
         Step::Remap => b"remap",
         Step::Unmap => b"unmap",
         Step::Unprotect => b"unprotect",
-        Step::Release => b"release",
+        Step::Release | Step::ReleaseDirty => b"release",
         Step::Merge => b"merge",
+        Step::Open | Step::OpenSource | Step::OpenDestination => b"open",
         Step::Look => b"look",
     }
 }

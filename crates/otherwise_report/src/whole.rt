@@ -1,5 +1,5 @@
 //! A mesh of two groups that is made at once, by the steps of the heap's own meshes.
-ghost use Rattle.std.specs.Prelude.{◌≡◌, ◌∷◌, [], Some, true, IfOk, OnOk, fold};
+ghost use Rattle.std.specs.Prelude.{◌≡◌, ◌∷◌, [], None, Some, true, IfOk, OnOk, fold};
 ghost use Rattle.std.specs.List.{range_with_len};
 ghost use Rattle.otherwise_report.specs.PlanStarts.{whole_heap, whole_move, whole_of, whole_phases};
 
@@ -19,7 +19,7 @@ pub(crate) fn mesh_whole(
 ) -> Result<(), AllocError>
     ensures { OnOk result (heap.new ≡ whole_heap memory.now heap.old source destination) }
 {
-    match begin(alloc, false, memory, heap, source, destination)? {
+    match begin(alloc, true, false, memory, heap, source, destination)? {
         Some(mesh) => make_whole(alloc, memory, heap, mesh),
         None => Ok(()),
     }
@@ -89,12 +89,14 @@ fn whole_phases(alloc: Global) -> Result<Vec<Phase>, AllocError>
 
 /// Returns the phase in which a step is made at once.
 fn whole_phase(alloc: Global, step: Step) -> Result<Phase, AllocError>
-    ensures { IfOk result (λ phase. phase ≡ record { steps = step ∷ []; is_once = true }) }
+    ensures { IfOk result (λ phase. phase ≡ record { steps = step ∷ []; most = None; page = None; is_once = true }) }
 {
     let mut steps = Vec::new(alloc);
     steps.push(step)?;
     Ok(Phase {
         steps,
+        most: None,
+        page: None,
         is_once: true,
     })
 }

@@ -9,7 +9,7 @@ use Rattle.otherwise_report.specs.Runs.{HasReported, HasStopped}
 use Rattle.otherwise_report.specs.declared.errors.StepsError.{StepsError}
 use Rattle.otherwise_report.specs.declared.errors.StepsError.TheVariants.{Replay, TooManyStates, Steps, PlanLine}
 use Rattle.otherwise_report.specs.declared.list_fault.ListFault.{ListFault}
-use Rattle.otherwise_report.specs.declared.list_fault.ListFault.TheVariants.{WordCount, NoStep, NotJoined}
+use Rattle.otherwise_report.specs.declared.list_fault.ListFault.TheVariants.{WordCount, NoStep, NotJoined, NotByPage, Parenthesis, Unclosed}
 use Rattle.run_command_line.specs.Meshes.{pairs_of}
 use Rattle.run_command_line.specs.declared.explore_args.ExploreArgs.{ExploreArgs}
 use Rattle.run_command_line.specs.declared.explore_args.StepsArgs.{StepsArgs}
@@ -31,9 +31,12 @@ pairs_asked args = map pair_of (map pair_asked (pairs_of args.meshes))
 
 -- why a text is no list of steps
 abbrev pub list_fault_text : ListFault → List ℕ
-list_fault_text WordCount = codes "--steps: 1 to 12 words with one space between them"
+list_fault_text WordCount = codes "--steps: 1 to 12 phases with one space between words"
 list_fault_text (NoStep number) = codes "--steps: word " ++ decimal number ++ codes ": no step"
 list_fault_text (NotJoined number) = codes "--steps: word " ++ decimal number ++ codes ": steps that can't be joined"
+list_fault_text (NotByPage number) = codes "--steps: word " ++ decimal number ++ codes ": not made page by page"
+list_fault_text (Parenthesis number) = codes "--steps: word " ++ decimal number ++ codes ": parenthesis out of place"
+list_fault_text Unclosed = codes "--steps: ( without )"
 
 -- an error's line, without its end, for an exploration of at most this number of states
 abbrev pub steps_text : ℕ → StepsError → List ℕ

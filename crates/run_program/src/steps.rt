@@ -129,11 +129,20 @@ fn list_fault_line(fault: ListFault) -> Line
     ensures { result.items ≡ ended (list_fault_text fault) }
 {
     match fault {
-        ListFault::WordCount => line_with(b"--steps: 1 to 12 words with one space between them"),
+        ListFault::WordCount => {
+            line_with(b"--steps: 1 to 12 phases with one space between words")
+        }
         ListFault::NoStep(number) => number_line(b"--steps: word ", number, b": no step"),
         ListFault::NotJoined(number) => {
             number_line(b"--steps: word ", number, b": steps that can't be joined")
         }
+        ListFault::NotByPage(number) => {
+            number_line(b"--steps: word ", number, b": not made page by page")
+        }
+        ListFault::Parenthesis(number) => {
+            number_line(b"--steps: word ", number, b": parenthesis out of place")
+        }
+        ListFault::Unclosed => line_with(b"--steps: ( without )"),
     }
 }
 

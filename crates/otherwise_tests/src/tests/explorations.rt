@@ -23,6 +23,8 @@ fn phases_of(alloc: Global, case: &Case) -> Option<Vec<Phase>> {
     for (steps, is_once) in case.phases {
         let phase = Phase {
             steps: steps.to_vec(alloc).ok()?,
+            most: None,
+            page: None,
             is_once: *is_once,
         };
         phases.push(phase).ok()?;

@@ -63,6 +63,8 @@ fn verdicts(alloc: Global, digits: &[usize; 5], job: &Job) -> Option<(bool, bool
         let (step, page_step) = step_of(*digit);
         let phase = Phase {
             steps: vec![in alloc; step].ok()?,
+            most: None,
+            page: None,
             is_once: false,
         };
         phases.push(phase).ok()?;

@@ -56,6 +56,7 @@ pub(crate) fn run<'a>(
     let start = start_of(alloc, job.scripts.of(0))?;
     let setting = Setting {
         phases,
+        checked: true,
         pages: PAGES,
         version: job.version,
         room: commands,
