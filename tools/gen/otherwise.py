@@ -18,7 +18,8 @@ import tempfile
 
 DOCUMENT = pathlib.Path("docs/OTHERWISE.md")
 BEGIN, END = "<!-- written by tools/gen/otherwise.py -->", "<!-- end of what it wrote -->"
-ONE, TWO_SPANS, TIGHT = (f"jobs/otherwise/setting_{name}.job" for name in ("one", "two_spans", "tight"))
+SETTINGS = ("one", "tight", "two_spans", "three_pages")
+ONE, TIGHT, TWO_SPANS, THREE_PAGES = (f"jobs/otherwise/setting_{name}.job" for name in SETTINGS)
 MOST = 3
 
 # What is different, the list, and the setting.
@@ -35,13 +36,27 @@ WRONG = [
     ("`release` before `remap`", "protect copy release remap unprotect", ONE),
     ("no `release`", "protect copy remap unprotect", ONE),
     ("merged, and the slots looked at before", "look protect merge copy remap unprotect release", ONE),
+    ("the groups stay open", "open protect copy remap unprotect release", ONE),
+    ("the source stays open", "open:src protect copy remap unprotect release", ONE),
+    ("the destination stays open", "open:dst protect copy remap unprotect release", ONE),
+    ("the groups are open before the end", "protect copy remap unprotect open release", ONE),
+    ("released before `remap`, and the page keeps its bytes", "protect copy release:dirty remap unprotect", ONE),
+    ("begun without a check of the slots", "begin:unchecked protect copy remap unprotect release", ONE),
     ("`unprotect` before `remap`, two spans", "protect copy unprotect remap release", TWO_SPANS),
+    ("one page of two protected, two spans", "protect:1 copy remap unprotect release", TWO_SPANS),
+    ("one page of two remapped, two spans", "protect copy remap:1 unprotect release", TWO_SPANS),
+    ("one page of three released", "protect copy remap unprotect release:1", THREE_PAGES),
+    ("page by page, `unprotect` before `remap`", "( protect copy:page unprotect remap ) release", THREE_PAGES),
 ]
 RIGHT = [
     ("`release` before `unprotect`", "protect copy remap release unprotect"),
     ("`remap` and `unprotect` in one move", "protect copy remap+unprotect release"),
     ("each phase in one move", "protect:once copy:once remap:once unprotect:once release:once"),
+    ("copied in pieces", "protect copy:512 remap unprotect release"),
     ("copied once more before", "copy protect copy remap unprotect release"),
+    ("page by page", "( protect copy:page remap unprotect ) release"),
+    ("page by page to the end", "( protect copy:page remap+unprotect release )"),
+    ("released pages keep their bytes", "protect copy remap unprotect release:dirty"),
     ("the slots looked at once", "look protect copy remap unprotect release"),
     ("merged first", "merge protect copy remap unprotect release"),
     ("hidden instead of protected", "hide copy remap unprotect release"),
@@ -57,8 +72,8 @@ def main():
             return 1
         rows = ["| Otherwise | List | Commands | What goes wrong | Shortest plan |", "|---|---|---|---|---|"]
         rows += [wrong_row(engine, *row) for row in WRONG]
-        rows += ["", f"Nothing is wrong with up to {MOST} commands in `setting_one.job`, `setting_tight.job` (two physical pages)"]
-        rows += ["and `setting_two_spans.job` with these lists:", "", "| Otherwise | List |", "|---|---|"]
+        rows += ["", f"Nothing is wrong with up to {MOST} commands in `setting_one.job`, `setting_tight.job` (two physical pages),"]
+        rows += ["`setting_two_spans.job` and `setting_three_pages.job` with these lists:", "", "| Otherwise | List |", "|---|---|"]
         rows += [right_row(engine, *row) for row in RIGHT]
     text = DOCUMENT.read_text()
     front, rest = text.split(BEGIN + "\n", 1)
@@ -95,7 +110,7 @@ def shown(row):
 
 def right_row(engine, otherwise, steps):
     """The row of a list without a fault."""
-    for job in (ONE, TIGHT, TWO_SPANS):
+    for job in (ONE, TIGHT, TWO_SPANS, THREE_PAGES):
         status, lines = report(engine, steps, job, MOST)
         if status != 0:
             sys.exit(f"{steps}: {lines}")

@@ -7,9 +7,13 @@ from cli.suite import NOTHING, execute, lines
 
 JOBS = pathlib.Path("jobs/otherwise")
 LISTS = (JOBS / "lists.txt").read_text().splitlines()
-WORDS = "protect hide copy remap unmap unprotect release merge look".split()
+WORDS = "protect hide copy remap unmap unprotect release merge look open".split()
+# Steps with options.
+OPTIONS = "protect:1 hide:2 copy:700 copy:page remap:1 unprotect:2 release:1 release:dirty open:src open:dst".split()
+# Steps that are made page by page.
+BY_PAGE = "protect hide copy:page remap unprotect release remap+unprotect release:dirty remap:2".split()
 RIGHT = "protect copy remap unprotect release"
-RANDOM_RUNS = 120
+RANDOM_RUNS = 300
 # The greatest number of states of a random exploration.
 STATES = 4000
 
@@ -77,7 +81,7 @@ def random_list(numbers):
     """A list of steps near the right one, or any list."""
     words = RIGHT.split() if numbers.random() < 0.6 else numbers.choices(WORDS, k=numbers.randint(1, 6))
     for _ in range(numbers.randint(0, 2)):
-        change = numbers.randrange(4)
+        change = numbers.randrange(6)
         place = numbers.randrange(len(words))
         if change == 0:
             words.insert(place, numbers.choice(WORDS))
@@ -85,9 +89,13 @@ def random_list(numbers):
             words.pop(place)
         elif change == 2:
             words.append(words.pop(place))
-        else:
+        elif change == 3:
             words[place] += "" if ":" in words[place] else ":once"
-    return " ".join(words)
+        elif change == 4:
+            words[place] = numbers.choice(OPTIONS)
+        else:
+            words[place : place + 1] = ["(", *numbers.sample(BY_PAGE, numbers.randint(1, 4)), ")"]
+    return " ".join(["begin:unchecked"] * (numbers.random() < 0.1) + words)
 
 
 def random_job(numbers):
