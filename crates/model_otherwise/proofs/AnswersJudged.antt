@@ -35,7 +35,7 @@ one_wrong true r x y got wanted h = absurd (cc h)
 one_wrong false r x y got wanted h = (refl, cc h)
 
 -- an answer told is the reply of the reference memory
-told_answered : (loaded : List ℕ) (r reply : Reply) → told loaded r ≡ Answered reply → reply ≡ r
+pub told_answered : (loaded : List ℕ) (r reply : Reply) → told loaded r ≡ Answered reply → reply ≡ r
 told_answered loaded (Bytes wanted) reply h = one_answered (pointwise nat_eq loaded wanted.items) reply _ _ _ h
 told_answered loaded (Byte wanted) reply h = one_answered (nat_eq (slice_index loaded 0) wanted) reply _ _ _ h
 told_answered loaded (Made serial address) reply h = cc h
@@ -44,7 +44,7 @@ told_answered loaded (At address) reply h = cc h
 told_answered loaded (Refused refusal) reply h = cc h
 
 -- a wrong answer told isn't the reply of the reference memory
-told_wrong : (loaded : List ℕ) (r got wanted : Reply) → told loaded r ≡ Wrong got wanted → got ≡ r → ⊥
+pub told_wrong : (loaded : List ℕ) (r got wanted : Reply) → told loaded r ≡ Wrong got wanted → got ≡ r → ⊥
 told_wrong loaded (Bytes bytes) got wanted h is =
     let wrong = one_wrong (pointwise nat_eq loaded bytes.items) _ _ _ got wanted h in
     other_text loaded bytes.items (sym wrong.0) (let gotten = wrong.1 in cc)

@@ -1,2 +1,3 @@
 pub mod AnswersJudged
 pub mod SpotBytes
+pub mod TimedJudged

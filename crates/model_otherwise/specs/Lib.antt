@@ -5,9 +5,11 @@ pub mod Groups
 pub mod Moves
 pub mod Effects
 pub mod Tries
+pub mod Timed
 pub mod States
 pub mod Faults
 pub mod AnswerLaws
 pub mod MoveLaws
 pub mod SpotLaws
 pub mod StepLaws
+pub mod TimedLaws

@@ -25,6 +25,7 @@ heap = record {
   entries = None ∷ entry 5 ReadWrite ∷ entry 5 ReadOnly ∷ entry 7 ReadWrite ∷ [];
   taken = 5 ∷ 7 ∷ [];
   spots = record { place = 22528; value = 17 } ∷ record { place = 22529; value = 18 } ∷ record { place = 28672; value = 33 } ∷ [];
+  flight = None;
 }
 
 -- the mesh of group 0 into group 1
@@ -125,6 +126,7 @@ wide_heap = record {
   entries = None ∷ map open_entry (10 ∷ 11 ∷ 12 ∷ 10 ∷ 11 ∷ 12 ∷ 13 ∷ 14 ∷ 15 ∷ []);
   taken = 10 ∷ 11 ∷ 12 ∷ 13 ∷ 14 ∷ 15 ∷ [];
   spots = record { place = 45055; value = 21 } ∷ record { place = 45056; value = 22 } ∷ record { place = 45058; value = 23 } ∷ [];
+  flight = None;
 }
 
 -- the mesh of group 0 into group 1

@@ -1,7 +1,8 @@
 //! Laws of the definitions. Each is the contract of a function that does nothing.
-ghost use Rattle.model_otherwise.specs.AnswerLaws.{AnswersArePlain, WrongAnswersAreWrong};
+ghost use Rattle.model_otherwise.specs.AnswerLaws.{AnswersArePlain, BegunChangesNothing, TimedAnswersArePlain, TimedWrongAnswersAreWrong, WrongAnswersAreWrong};
 ghost use Rattle.model_otherwise.specs.MoveLaws.{LimitsEndPhases, PagesComeOneByOne, PagesGoThroughMembers, PiecesCoverSlots, RightMovesAreTheHeaps, RightMovesEnd};
 ghost use Rattle.model_otherwise.specs.SpotLaws.{CopiedBytesAreFound, CopiesChangeNoOther, StoredBytesAreFound, StoresChangeNoOther, ZeroedBytesAreZero, ZeroesChangeNoOther};
+ghost use Rattle.model_otherwise.specs.TimedLaws.{FreesNeedTheirGroup, LoadsEndLate, OthersWait, StoresEndLate};
 ghost use Rattle.model_otherwise.specs.StepLaws.{AccessesAreAllowed, CopiesObjects, CopiesPieces, GoesThroughPages, LooksOnce, MergesGroups, OpensGroups, ProtectsOnePage, ReleasesOnePage, RemapsOnePage};
 
 /// An example of each step, which a slip in the step's effect contradicts.
@@ -54,4 +55,20 @@ pub fn bytes_change_alone()
 pub fn answers_are_judged()
     ensures right { AnswersArePlain }
     ensures wrong { WrongAnswersAreWrong }
+{}
+
+/// The same for commands that may be made in two moves. The first move changes nothing in the reference memory.
+pub fn timed_answers_are_judged()
+    ensures right { TimedAnswersArePlain }
+    ensures begun { BegunChangesNothing }
+    ensures wrong { TimedWrongAnswersAreWrong }
+{}
+
+/// Examples of commands in two moves.
+#[tactic(auto, unfolding(model_words::specs::Classes::pages_of, model_words::specs::Classes::slots_of))]
+pub fn commands_take_two_moves()
+    ensures stores { StoresEndLate }
+    ensures loads { LoadsEndLate }
+    ensures others { OthersWait }
+    ensures frees { FreesNeedTheirGroup }
 {}

@@ -12,6 +12,7 @@ mod range;
 mod seen;
 mod spot;
 mod steps;
+mod timing;
 mod tried;
 
 pub use fault::{Fault, FaultKind};
@@ -21,4 +22,5 @@ pub use range::Range;
 pub use seen::Seen;
 pub use spot::Spot;
 pub use steps::{Part, Step};
+pub use timing::{Making, Timing};
 pub use tried::Tried;

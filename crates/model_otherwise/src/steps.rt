@@ -33,6 +33,8 @@ pub enum Step {
     OpenSource,
     /// The destination is open to new objects. One move.
     OpenDestination,
+    /// No command is between its two moves. One move.
+    Fence,
     /// Copies from now on are of the objects that are in the source now. One move.
     Look,
 }

@@ -8,13 +8,16 @@ use Rattle.model_otherwise.specs.Effects.{Meshing, begin, parts_made}
 use Rattle.model_otherwise.specs.Groups.{Placed, group_of}
 use Rattle.model_otherwise.specs.Heaps.{Heap, Mesh}
 use Rattle.model_otherwise.specs.PageMap.{access_of}
-use Rattle.model_otherwise.specs.States.{Asking, Before, Over, Pair, Refused as IsRefused, Running, Setting, Stage, State, after_tried, asked, begun_at, command_move, counted, counts, is_busy_for, mesher_at, mesher_move, moved_on, moved_to, next_move, run_on, with_answered}
+use Rattle.model_otherwise.specs.States.{Asking, Before, Over, Pair, Refused as IsRefused, Running, Setting, Stage, State, after_tried, asked, begun_at, command_move, counted, counts, is_busy_for, is_fenced, mesher_at, mesher_move, moved_on, moved_to, next_move, outcome_of, run_by, run_on, with_answered}
+use Rattle.model_otherwise.specs.Timed.{attempted, is_plain}
 use Rattle.model_otherwise.specs.Tries.{Outcome, access_by, by_access, is_hit, made_at, new_by_access, new_placed, others_tried, place_new, told, tried}
 use Rattle.model_otherwise.specs.declared.page_map.Access.{Access}
 use Rattle.model_otherwise.specs.declared.page_map.Access.TheVariants.{Reached, Blocked, NoPage as Unmapped}
 use Rattle.model_otherwise.specs.declared.steps.Part.{Part}
+use Rattle.model_otherwise.proofs.TimedJudged.{tried_not_begun, tried_not_ended}
+use Rattle.model_otherwise.specs.declared.steps.Part.{Part}
 use Rattle.model_otherwise.specs.declared.tried.Tried.{Tried}
-use Rattle.model_otherwise.specs.declared.tried.Tried.TheVariants.{Answered, Held, NoPage, Wrong, Overlaps}
+use Rattle.model_otherwise.specs.declared.tried.Tried.TheVariants.{Answered, Begun, Ended, Held, Waits, NoPage, Wrong, Overlaps, GroupGone}
 use Rattle.model_words.proofs.Chains.{went_on}
 use Rattle.model_words.specs.Replies.{is_refusal}
 use Rattle.model_words.specs.declared.commands.Command.{Command}
@@ -144,6 +147,14 @@ pub record IsCommand (x : Setting) (a u : State) (n : ℕ) : Type 0 where
   pub stages : u.stages ≡ a.stages
   pub entries : u.entries ≡ a.entries + 1
 
+-- where each command is one move, what becomes of it is what one move gives
+pub plain_outcome : (x : Setting) (s : State) (n : ℕ) → is_plain x.timing ≡ true → outcome_of x s n ≡ option_map (tried x.pages s.memory s.heap) (asked x s n)
+plain_outcome x s n whole =
+    elim (asked x s n) as (λ c. option_map (attempted x.timing n x.pages s.memory s.heap) c ≡ option_map (tried x.pages s.memory s.heap) c) [
+      | None ↦ refl
+      | Some command ↦ rw whole refl
+    ]
+
 -- an answer that is a move
 counted_command : (x : Setting) (a u : State) (n : ℕ) (command : Command) (reply : Reply) (b : Bool) → asked x a n ≡ Some command
     → (tried x.pages a.memory a.heap command).tried ≡ Answered reply
@@ -166,33 +177,39 @@ counted_command x a u n command reply false given answered is = absurd (cc is)
 tried_command : (x : Setting) (a u : State) (n : ℕ) (command : Command) (t : Tried) → asked x a n ≡ Some command
     → (tried x.pages a.memory a.heap command).tried ≡ t → after_tried x a n (tried x.pages a.memory a.heap command) t ≡ Some u → IsCommand x a u n
 tried_command x a u n command (Answered reply) given answered is = counted_command x a u n command reply (counts x.asking reply) given answered is
+tried_command x a u n command Begun given answered is = absurd (tried_not_begun x.pages a.memory a.heap command answered)
+tried_command x a u n command (Ended reply) given answered is = absurd (tried_not_ended x.pages a.memory a.heap command reply answered)
 tried_command x a u n command Held given answered is = absurd (cc is)
+tried_command x a u n command Waits given answered is = absurd (cc is)
 tried_command x a u n command NoPage given answered is = absurd (cc is)
 tried_command x a u n command (Wrong got wanted) given answered is = absurd (cc is)
 tried_command x a u n command (Overlaps address) given answered is = absurd (cc is)
+tried_command x a u n command (GroupGone group) given answered is = absurd (cc is)
 
 -- so a move that is a command was answered
-pub is_command : (x : Setting) (a u : State) (n : ℕ) → command_move x a n ≡ Some u → IsCommand x a u n
-is_command x a u n is =
+pub is_command : (x : Setting) (a u : State) (n : ℕ) → is_plain x.timing ≡ true → command_move x a n ≡ Some u → IsCommand x a u n
+is_command x a u n whole is =
     elim (asked x a n) as (λ c. asked x a n ≡ c
     → option_and_then (λ d. after_tried x a n d d.tried) (option_map (tried x.pages a.memory a.heap) c) ≡ Some u → IsCommand x a u n) [
       | None ↦ λ none nowhere. absurd (cc nowhere)
       | Some command ↦ λ given leads. tried_command x a u n command (tried x.pages a.memory a.heap command).tried given refl leads
-    ] refl is
+    ] refl (subst (λ (o : Option Outcome). option_and_then (λ d. after_tried x a n d d.tried) o ≡ Some u) (plain_outcome x a n whole) is)
 
 -- a command that is answered by no refusal is a move, whoever gives it
-pub command_made : (y : Setting) (t : State) (n : ℕ) (command : Command) (reply : Reply) (done : Outcome) → asked y t n ≡ Some command
+pub command_made : (y : Setting) (t : State) (n : ℕ) (command : Command) (reply : Reply) (done : Outcome) → is_plain y.timing ≡ true → asked y t n ≡ Some command
     → tried y.pages t.memory t.heap command ≡ done → done.tried ≡ Answered reply → counts y.asking reply ≡ true
     → command_move y t n ≡ Some (with_answered t n done)
-command_made y t n command reply done given is answered counts_is =
+command_made y t n command reply done whole given is answered counts_is =
     let after : after_tried y t n done (Answered reply) ≡ Some (with_answered t n done) =
     subst (λ (b : Bool). (if b then Some (with_answered t n done) else None) ≡ Some (with_answered t n done)) (sym counts_is) refl in
     let after_done : after_tried y t n done done.tried ≡ Some (with_answered t n done) =
     subst (λ (v : Tried). after_tried y t n done v ≡ Some (with_answered t n done)) (sym answered) after in
     let after_all : after_tried y t n (tried y.pages t.memory t.heap command) (tried y.pages t.memory t.heap command).tried ≡ Some (with_answered t n done) =
     subst (λ (d : Outcome). after_tried y t n d d.tried ≡ Some (with_answered t n done)) (sym is) after_done in
+    let move : option_and_then (λ d. after_tried y t n d d.tried) (option_map (tried y.pages t.memory t.heap) (asked y t n)) ≡ Some (with_answered t n done) =
     subst (λ (c : Option Command). option_and_then (λ d. after_tried y t n d d.tried) (option_map (tried y.pages t.memory t.heap) c) ≡ Some (with_answered t n done))
-    (sym given) after_all
+    (sym given) after_all in
+    subst (λ (o : Option Outcome). option_and_then (λ d. after_tried y t n d d.tried) o ≡ Some (with_answered t n done)) (sym (plain_outcome y t n whole)) move
 
 -- the state with other counts and places
 abbrev pub with_counts : List ℕ → ℕ → ℕ → State → State
@@ -215,15 +232,23 @@ moved_alike x r q s p e k i m None = refl
 moved_alike x r q s p e k i m (Some next) = refl
 
 -- nor a move of a mesh
+parts_alike : (x : Setting) (r : ℕ) (q : Asking) (s : State) (p : List ℕ) (e k i : ℕ) (mesh : Mesh) (ps : List Part)
+    → run_by (with_asking r q x) (with_counts p e k s) i mesh ps ≡ option_map (with_counts p e (k + 1)) (run_by x s i mesh ps)
+parts_alike x r q s p e k i mesh ps =
+    let m = counted (parts_made s.memory ps (record { heap = s.heap; mesh = mesh })) in
+    elim (is_fenced s.heap ps) as (λ b. (if b then None else Some (moved_to (with_asking r q x) (with_counts p e k s) i m))
+    ≡ option_map (with_counts p e (k + 1)) (if b then None else Some (moved_to x s i m))) [
+      | true ↦ refl
+      | false ↦ ap (λ (t : State). Some t) (moved_alike x r q s p e k i m (next_move x m.mesh))
+    ]
+
 run_alike : (x : Setting) (r : ℕ) (q : Asking) (s : State) (p : List ℕ) (e k i : ℕ) (mesh : Mesh)
     → run_on (with_asking r q x) (with_counts p e k s) i mesh ≡ option_map (with_counts p e (k + 1)) (run_on x s i mesh)
 run_alike x r q s p e k i mesh =
-    elim (next_move x mesh) as (λ parts.
-    option_map (λ ps. moved_to (with_asking r q x) (with_counts p e k s) i (counted (parts_made s.memory ps (record { heap = s.heap; mesh = mesh })))) parts
-    ≡ option_map (with_counts p e (k + 1)) (option_map (λ ps. moved_to x s i (counted (parts_made s.memory ps (record { heap = s.heap; mesh = mesh })))) parts)) [
+    elim (next_move x mesh) as (λ parts. option_and_then (run_by (with_asking r q x) (with_counts p e k s) i mesh) parts
+    ≡ option_map (with_counts p e (k + 1)) (option_and_then (run_by x s i mesh) parts)) [
       | None ↦ refl
-      | Some ps ↦ (let m = counted (parts_made s.memory ps (record { heap = s.heap; mesh = mesh })) in
-          ap (λ (t : State). Some t) (moved_alike x r q s p e k i m (next_move x m.mesh)))
+      | Some ps ↦ parts_alike x r q s p e k i mesh ps
     ]
 
 -- nor that of a mesher at a stage

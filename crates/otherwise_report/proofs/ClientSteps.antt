@@ -1,18 +1,20 @@
 -- A client makes the moves of each job whose commands are among its own.
-use Rattle.std.proofs.Common.{◌≡◌, ◌⊎◌, ℕ, suc, ◌+◌, ◌-◌, ◌<◌, ◌≤◌, Bool, true, false, if◌then◌else◌, nat_lt, not, List, [], ◌∷◌, Option, Some, None, ap, length, option_and_then, option_map, slice_get, slice_index, slice_index_or, refl, subst, sym, ◌∙◌, arith, inl, inr}
+use Rattle.std.proofs.Common.{◌≡◌, ◌⊎◌, ℕ, suc, ◌+◌, ◌-◌, ◌<◌, ◌≤◌, Bool, true, false, ◌||◌, if◌then◌else◌, nat_lt, not, List, [], ◌∷◌, Option, Some, None, ap, length, option_and_then, option_map, slice_get, slice_index, slice_index_or, refl, subst, sym, ◌∙◌, arith, inl, inr}
 use Rattle.std.proofs.lemmas.Bool.Decides.{leb_tells}
 use Rattle.std.proofs.lemmas.Option.{slice_get_within}
 use Rattle.model_memory.specs.Memory.{Memory}
 use Rattle.model_otherwise.specs.Heaps.{Heap}
 use Rattle.model_otherwise.specs.Moves.{Phase}
-use Rattle.model_otherwise.specs.States.{Asking, Client, Pair, Scripts, Setting, Stage, State, after, asked, asks, command_in, command_move, counts, is_wrong, mesher_move, moves, with_answered, wrong_at}
+use Rattle.model_otherwise.specs.States.{Asking, Client, Pair, Scripts, Setting, Stage, State, after, asked, asks, command_in, command_move, counts, is_wrong, may_end, mesher_move, moves, with_answered, wrong_at}
+use Rattle.model_otherwise.specs.Timed.{is_plain}
 use Rattle.model_otherwise.specs.Tries.{Outcome, tried}
+use Rattle.model_otherwise.specs.declared.timing.Timing.{Timing}
 use Rattle.model_otherwise.specs.declared.tried.Tried.{Tried}
 use Rattle.model_words.proofs.Tests.{tells}
 use Rattle.model_words.specs.Replies.{is_refusal}
 use Rattle.model_words.specs.declared.commands.Command.{Command}
 use Rattle.model_words.specs.declared.versions.Version.{Version}
-use Rattle.otherwise_report.proofs.ClientMoves.{IsCommand, command_made, is_command, mesher_alike, mesher_gives_none, refusal_unchanged, with_asking, with_counts}
+use Rattle.otherwise_report.proofs.ClientMoves.{IsCommand, command_made, is_command, mesher_alike, mesher_gives_none, plain_outcome, refusal_unchanged, with_asking, with_counts}
 use Rattle.otherwise_report.specs.ClientLaws.{HasClientFor, IsAlike, IsAnsweredSo, IsCovered}
 use Rattle.states_reach.specs.Reach.{AreMoves, IsKept, IsReachable, after_all, going_on}
 
@@ -38,7 +40,7 @@ command_kept scripts places n command is = (slice_index places n, is)
 -- a command that may be answered is one of those of the asking
 given_command : (x : Setting) (s : State) (n : ℕ) (command : Command) → asked x s n ≡ Some command → command_in x.asking s.places n ≡ Some command
 given_command x s n command is =
-    elim (nat_lt s.entries x.room) as (λ b. (if b then command_in x.asking s.places n else None) ≡ Some command → command_in x.asking s.places n ≡ Some command) [
+    elim (nat_lt s.entries x.room || may_end x s n) as (λ b. (if b then command_in x.asking s.places n else None) ≡ Some command → command_in x.asking s.places n ≡ Some command) [
       | true ↦ λ here. here
       | false ↦ λ none. absurd (cc none)
     ] is
@@ -56,7 +58,7 @@ client_asked : (y : Setting) (t : State) (commands : List Command) (k : ℕ) (co
 client_asked y t commands k command client there room =
     let here : command_in y.asking t.places k ≡ Some command =
     subst (λ (asking : Asking). command_in asking t.places k ≡ Some command) (sym client) there in
-    subst (λ (b : Bool). (if b then command_in y.asking t.places k else None) ≡ Some command) (sym (below t.entries y.room room)) here
+    subst (λ (b : Bool). (if b || may_end y t k then command_in y.asking t.places k else None) ≡ Some command) (sym (below t.entries y.room room)) here
 
 -- its number is one of a command
 client_number : (y : Setting) (commands : List Command) (k : ℕ) (command : Command) → y.asking ≡ Client commands
@@ -120,6 +122,10 @@ refused_step x y a b u n made alike refused =
       few = omega (arith, more);
     }
 
+-- the client's commands are one move each
+client_whole : (x y : Setting) → HasClientFor x y → is_plain y.timing ≡ true
+client_whole x y client = subst (λ (t : Timing). is_plain t ≡ true) (sym client.timing) client.whole
+
 -- it gives each other command of a worker
 answered_step : (x y : Setting) (a b u : State) (n : ℕ) (client : HasClientFor x y) (made : IsCommand x a u n) → IsAlike a b → is_refusal made.reply ≡ false
     → b.entries < y.room → IsStepped y a b u
@@ -131,7 +137,7 @@ answered_step x y a b u n client made alike done room =
     let counts_is : counts y.asking made.reply ≡ true =
     subst (λ (asking : Asking). counts asking made.reply ≡ true) (sym client.client) (ap not done) in
     let given = client_asked y b client.commands k made.command client.client kept.1 room in
-    let leads = command_made y b k made.command made.reply outcome given (alike_tried x y a b made.command client alike) made.answered counts_is in
+    let leads = command_made y b k made.command made.reply outcome (client_whole x y client) given (alike_tried x y a b made.command client alike) made.answered counts_is in
     let more = made.entries in
     record {
       t = with_answered b k outcome;
@@ -152,18 +158,18 @@ command_step x y a b u n client made alike room = elim (tells (is_refusal made.r
 ]
 
 -- a setting with these parts
-abbrev setting_in : List Phase → Bool → ℕ → Version → ℕ → Asking → List Pair → Setting
-setting_in f c p v r q i = record { phases = f; checked = c; pages = p; version = v; room = r; asking = q; pairs = i }
+abbrev setting_in : List Phase → Bool → ℕ → Version → ℕ → Asking → Timing → List Pair → Setting
+setting_in f c p v r q m i = record { phases = f; checked = c; pages = p; version = v; room = r; asking = q; timing = m; pairs = i }
 
 -- settings with the same parts are equal
-same_setting : (f g : List Phase) (s t : Bool) (p q : ℕ) (v w : Version) (i j : List Pair) (r : ℕ) (k : Asking) → f ≡ g → s ≡ t → p ≡ q → v ≡ w → i ≡ j
-    → setting_in f s p v r k i ≡ setting_in g t q w r k j
-same_setting f g s t p q v w i j r k a e b c d = cc
+same_setting : (f g : List Phase) (s t : Bool) (p q : ℕ) (v w : Version) (m n : Timing) (i j : List Pair) (r : ℕ) (k : Asking)
+    → f ≡ g → s ≡ t → p ≡ q → v ≡ w → m ≡ n → i ≡ j → setting_in f s p v r k m i ≡ setting_in g t q w r k n j
+same_setting f g s t p q v w m n i j r k a e b c h d = cc
 
 -- the client's setting is that of the workers, with another asking
 client_setting : (x y : Setting) → HasClientFor x y → y ≡ with_asking y.room y.asking x
-client_setting x y client = same_setting y.phases x.phases y.checked x.checked y.pages x.pages y.version x.version y.pairs x.pairs y.room y.asking
-    client.phases client.checked client.pages client.version client.pairs
+client_setting x y client = same_setting y.phases x.phases y.checked x.checked y.pages x.pages y.version x.version y.timing x.timing y.pairs x.pairs y.room y.asking
+    client.phases client.checked client.pages client.version client.timing client.pairs
 
 -- a state with these parts
 abbrev state_in : Memory → Heap → List Stage → List ℕ → ℕ → ℕ → State
@@ -201,10 +207,10 @@ mesher_step x y a b u i client alike lt is =
     }
 
 -- a move is a command that was answered, or a mesher's
-is_move : (x : Setting) (a u : State) (n : ℕ) → n < moves x → after x a n ≡ Some u
+is_move : (x : Setting) (a u : State) (n : ℕ) → is_plain x.timing ≡ true → n < moves x → after x a n ≡ Some u
     → IsCommand x a u n ⊎ ((n - asks x.asking < length x.pairs) × (mesher_move x a (n - asks x.asking) ≡ Some u))
-is_move x a u n lt is = elim (leb_tells (suc n) (asks x.asking)) [
-  | inl under ↦ inl (is_command x a u n
+is_move x a u n whole lt is = elim (leb_tells (suc n) (asks x.asking)) [
+  | inl under ↦ inl (is_command x a u n whole
       (subst (λ (b : Bool). (if b then command_move x a n else mesher_move x a (n - asks x.asking)) ≡ Some u) under.0 is))
   | inr past ↦ (let high = past.1 in inr (
     omega (arith, lt, high),
@@ -213,12 +219,12 @@ is_move x a u n lt is = elim (leb_tells (suc n) (asks x.asking)) [
 ]
 
 -- moves give no fewer commands than none
-entries_grow : (x : Setting) (path : List ℕ) (a s : State) → AreMoves (moves x) path → after_all (after x) path a ≡ Some s → a.entries ≤ s.entries
-entries_grow x [] a s all is = let same : a ≡ s = cc is in subst (λ (t : State). a.entries ≤ t.entries) same (omega arith)
-entries_grow x (n ∷ path) a s all is =
+entries_grow : (x : Setting) (path : List ℕ) (a s : State) → is_plain x.timing ≡ true → AreMoves (moves x) path → after_all (after x) path a ≡ Some s → a.entries ≤ s.entries
+entries_grow x [] a s whole all is = let same : a ≡ s = cc is in subst (λ (t : State). a.entries ≤ t.entries) same (omega arith)
+entries_grow x (n ∷ path) a s whole all is =
     elim (after x a n) as (λ o. after x a n ≡ o → going_on (after_all (after x) path) o ≡ Some s → a.entries ≤ s.entries) [
       | None ↦ λ none nowhere. absurd (cc nowhere)
-      | Some u ↦ λ leads rest. (let grown = entries_grow x path u s all.1 rest in elim (is_move x a u n all.0 leads) [
+      | Some u ↦ λ leads rest. (let grown = entries_grow x path u s whole all.1 rest in elim (is_move x a u n whole all.0 leads) [
         | inl made ↦ (let more = made.entries in omega (arith, grown, more))
         | inr mesher ↦ (let none = mesher_gives_none x a u (n - asks x.asking) mesher.1 in omega (arith, grown, none))
       ])
@@ -227,7 +233,7 @@ entries_grow x (n ∷ path) a s all is =
 -- the client makes each move, while it may give as many commands
 one_step : (x y : Setting) (a b u s : State) (n : ℕ) → HasClientFor x y → IsAlike a b → n < moves x → after x a n ≡ Some u → u.entries ≤ s.entries
     → s.entries + b.entries ≤ y.room + a.entries → IsStepped y a b u
-one_step x y a b u s n client alike lt is grown few = elim (is_move x a u n lt is) [
+one_step x y a b u s n client alike lt is grown few = elim (is_move x a u n client.whole lt is) [
   | inl made ↦ (let more = made.entries in command_step x y a b u n client made alike (omega (arith, grown, few, more)))
   | inr mesher ↦ mesher_step x y a b u (n - asks x.asking) client alike mesher.0 mesher.1
 ]
@@ -255,7 +261,7 @@ path_covered x y (n ∷ path) a b s client alike all is few =
     elim (after x a n) as (λ o. after x a n ≡ o → going_on (after_all (after x) path) o ≡ Some s → IsCovered y a b s) [
       | None ↦ λ none nowhere. absurd (cc nowhere)
       | Some u ↦ λ leads rest. (
-          let step = one_step x y a b u s n client alike all.0 leads (entries_grow x path u s all.1 rest) few in
+          let step = one_step x y a b u s n client alike all.0 leads (entries_grow x path u s client.whole all.1 rest) few in
           let covered = path_covered x y path u step.t s client step.alike all.1 rest
           (sum_on s.entries step.t.entries a.entries b.entries u.entries y.room step.few few) in
           record {
@@ -271,13 +277,20 @@ pub states_covered : (x y : Setting) (a b s : State) → HasClientFor x y → Is
     → s.entries + b.entries ≤ y.room + a.entries → IsCovered y a b s
 states_covered x y a b s client alike (path, leads) few = path_covered x y path a b s client alike leads.moves_are leads.leads few
 
+-- where each command is one move, a wrong answer is one that a move gives
+wrong_here : (x : Setting) (s : State) (n : ℕ) → is_plain x.timing ≡ true
+    → wrong_at x s n ≡ option_and_then (λ t. if is_wrong t then Some t else None) (option_map (λ d. d.tried) (option_map (tried x.pages s.memory s.heap) (asked x s n)))
+wrong_here x s n whole =
+    ap (λ (o : Option Outcome). option_and_then (λ (t : Tried). if is_wrong t then Some t else None) (option_map (λ (d : Outcome). d.tried) o)) (plain_outcome x s n whole)
+
 -- the wrong answer to a command that may be answered
-wrong_of : (x : Setting) (s : State) (n : ℕ) (command : Command) (o : Outcome) (wrong : Tried) → asked x s n ≡ Some command
+wrong_of : (x : Setting) (s : State) (n : ℕ) (command : Command) (o : Outcome) (wrong : Tried) → is_plain x.timing ≡ true → asked x s n ≡ Some command
     → tried x.pages s.memory s.heap command ≡ o → (if is_wrong o.tried then Some o.tried else None) ≡ Some wrong → wrong_at x s n ≡ Some wrong
-wrong_of x s n command o wrong given is wrong_is =
+wrong_of x s n command o wrong whole given is wrong_is =
     let here : (if is_wrong (tried x.pages s.memory s.heap command).tried then Some (tried x.pages s.memory s.heap command).tried else None) ≡ Some wrong =
     subst (λ (d : Outcome). (if is_wrong d.tried then Some d.tried else None) ≡ Some wrong) (sym is) wrong_is in
-    subst (λ (c : Option Command).
+    wrong_here x s n whole
+    ∙ subst (λ (c : Option Command).
     option_and_then (λ t. if is_wrong t then Some t else None) (option_map (λ d. d.tried) (option_map (tried x.pages s.memory s.heap) c)) ≡ Some wrong)
     (sym given) here
 
@@ -294,7 +307,7 @@ answers_covered x y s t worker wrong client alike room is =
           record {
             n = kept.0;
             is_command = client_number y client.commands kept.0 command client.client kept.1;
-            wrong = wrong_of y t kept.0 command (tried x.pages s.memory s.heap command) wrong
+            wrong = wrong_of y t kept.0 command (tried x.pages s.memory s.heap command) wrong (client_whole x y client)
                 (client_asked y t client.commands kept.0 command client.client kept.1 room) (alike_tried x y s t command client alike) here;
           })
-    ] refl is
+    ] refl (sym (wrong_here x s worker client.whole) ∙ is)

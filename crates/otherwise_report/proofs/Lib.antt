@@ -7,6 +7,7 @@ pub mod CountedEnds
 pub mod Drops
 pub mod NearestStates
 pub mod NearestStuck
+pub mod PlayedLines
 pub mod ReportMeanings
 pub mod Sections
 pub mod ToldRuns

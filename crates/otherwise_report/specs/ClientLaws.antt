@@ -1,6 +1,7 @@
 -- A client covers each job whose commands are among its own.
-use Rattle.std.specs.Prelude.{◌≡◌, ℕ, ◌+◌, ◌<◌, ◌≤◌, List, [], Some, slice_index_or}
+use Rattle.std.specs.Prelude.{◌≡◌, ℕ, ◌+◌, ◌<◌, ◌≤◌, true, List, [], Some, slice_index_or}
 use Rattle.model_otherwise.specs.States.{Client, Scripts, Setting, State, after, asks, moves, wrong_at}
+use Rattle.model_otherwise.specs.Timed.{is_plain}
 use Rattle.model_otherwise.specs.declared.tried.Tried.{Tried}
 use Rattle.model_words.specs.declared.commands.Command.{Command}
 use Rattle.states_reach.specs.Reach.{IsKept, IsReachable}
@@ -10,7 +11,7 @@ abbrev pub AreAmong : List (List Command) → List Command → Type 0
 AreAmong scripts commands = (worker : ℕ) (command : Command) → IsKept (slice_index_or scripts worker []) command → IsKept commands command
 
 -- both settings are the same but for who gives commands: workers with scripts in `x`, a client with at least their
--- commands in `y`
+-- commands in `y`. Each command is one move
 pub record HasClientFor (x y : Setting) : Type 0 where
   pub scripts : List (List Command)
   pub commands : List Command
@@ -20,6 +21,8 @@ pub record HasClientFor (x y : Setting) : Type 0 where
   pub phases : y.phases ≡ x.phases
   pub checked : y.checked ≡ x.checked
   pub pages : y.pages ≡ x.pages
+  pub whole : is_plain x.timing ≡ true
+  pub timing : y.timing ≡ x.timing
   pub version : y.version ≡ x.version
   pub pairs : y.pairs ≡ x.pairs
 

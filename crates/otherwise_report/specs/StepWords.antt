@@ -4,7 +4,7 @@ use Rattle.std.specs.List.{list_all, slice_split}
 use Rattle.model_jobs.specs.JobFiles.{are_same, number_in}
 use Rattle.model_otherwise.specs.Moves.{Phase}
 use Rattle.model_otherwise.specs.declared.steps.Step.{Step}
-use Rattle.model_otherwise.specs.declared.steps.Step.TheVariants.{Protect, Hide, Copy, CopyPiece, CopyPage, Remap, Unmap, Unprotect, Release, ReleaseDirty, Merge, Open, OpenSource, OpenDestination, Look}
+use Rattle.model_otherwise.specs.declared.steps.Step.TheVariants.{Protect, Hide, Copy, CopyPiece, CopyPage, Remap, Unmap, Unprotect, Release, ReleaseDirty, Merge, Open, OpenSource, OpenDestination, Fence, Look}
 use Rattle.model_words.specs.declared.faults.FaultKind.{FaultKind}
 use Rattle.otherwise_report.specs.declared.list_fault.ListFault.{ListFault}
 use Rattle.otherwise_report.specs.declared.list_fault.ListFault.TheVariants.{NoStep, NotJoined}
@@ -26,11 +26,12 @@ step_name Merge = codes "merge"
 step_name Open = codes "open"
 step_name OpenSource = codes "open"
 step_name OpenDestination = codes "open"
+step_name Fence = codes "fence"
 step_name Look = codes "look"
 
 -- each step without options once
 abbrev pub all_steps : List Step
-all_steps = Protect ∷ Hide ∷ Copy ∷ Remap ∷ Unmap ∷ Unprotect ∷ Release ∷ Merge ∷ Open ∷ Look ∷ []
+all_steps = Protect ∷ Hide ∷ Copy ∷ Remap ∷ Unmap ∷ Unprotect ∷ Release ∷ Merge ∷ Open ∷ Fence ∷ Look ∷ []
 
 -- whether the word is the name of the step
 abbrev pub is_named : List ℕ → Step → Bool
@@ -60,6 +61,7 @@ is_of_pages Merge = false
 is_of_pages Open = false
 is_of_pages OpenSource = false
 is_of_pages OpenDestination = false
+is_of_pages Fence = false
 is_of_pages Look = false
 
 -- whether the step is a release

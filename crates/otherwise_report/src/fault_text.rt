@@ -42,13 +42,14 @@ pub(crate) fn add_wrong(text: &mut Vec<u8>, tried: &Tried) -> Result<(), AllocEr
     ensures { OnOk result (text.new.items ≡ text.old.items ++ wrong_text tried.now) }
 {
     match tried {
-        Tried::Answered(_) | Tried::Held => Ok(()),
+        Tried::Answered(_) | Tried::Begun | Tried::Ended(_) | Tried::Held | Tried::Waits => Ok(()),
         Tried::NoPage => text.extend_from_slice(b": a crash"),
         Tried::Wrong(_, wanted) => {
             text.extend_from_slice(b", not ")?;
             add_reply(text, wanted)
         }
         Tried::Overlaps(_) => text.extend_from_slice(b", where a live object is"),
+        Tried::GroupGone(_) => text.extend_from_slice(b": its slot stays occupied"),
     }
 }
 

@@ -117,13 +117,20 @@ fn add_tried(text: &mut Vec<u8>, tried: &Tried) -> Result<(), AllocError>
     ensures { OnOk result (text.new.items ≡ text.old.items ++ tried_text tried.now) }
 {
     match tried {
-        Tried::Answered(reply) => add_reply(text, reply),
+        Tried::Answered(reply) | Tried::Ended(reply) => add_reply(text, reply),
+        Tried::Begun => text.extend_from_slice(b"begins"),
         Tried::Held => text.extend_from_slice(b"blocked"),
+        Tried::Waits => text.extend_from_slice(b"waits"),
         Tried::NoPage => text.extend_from_slice(b"no page"),
         Tried::Wrong(got, _) => add_reply(text, got),
         Tried::Overlaps(address) => {
             text.extend_from_slice(b"at ")?;
             add_address(text, u64::from(*address))
+        }
+        Tried::GroupGone(group) => {
+            text.extend_from_slice(b"group ")?;
+            add_decimal(text, u64::from(*group))?;
+            text.extend_from_slice(b" is gone")
         }
     }
 }

@@ -1,8 +1,8 @@
 //! The words of steps, and the phase that a word of a list of steps spells.
-ghost use Rattle.std.specs.Prelude.{◌≡◌, IfErr, IfOk, Ok, Some, map, option_map};
+ghost use Rattle.std.specs.Prelude.{◌≡◌, IfErr, IfOk, Ok, Some, find, map, option_map};
 ghost use Rattle.std.specs.List.{list_all};
 ghost use Rattle.otherwise_report.specs.Errors.{IsUnspelt};
-ghost use Rattle.otherwise_report.specs.StepWords.{are_joined, as_step, bare, is_alike, is_of_pages, is_release, is_same_limit, option_added, options_added, parts_between, phase_in, phase_of, step_in, step_name, step_named, steps_in, with_dirty, with_limit, with_number, with_once, with_one, with_page};
+ghost use Rattle.otherwise_report.specs.StepWords.{are_joined, as_step, bare, is_alike, is_named, is_of_pages, is_release, is_same_limit, option_added, options_added, parts_between, phase_in, phase_of, step_in, step_name, step_named, steps_in, with_dirty, with_limit, with_number, with_once, with_one, with_page};
 
 use crate::errors::StepsError;
 use crate::list_fault::ListFault;
@@ -13,7 +13,7 @@ use text_fields::lines::{cut, is_word};
 use text_fields::numbers::number32;
 
 /// Each step without options once.
-const STEPS: [Step; 10] = [
+const STEPS: [Step; 11] = [
     Step::Protect,
     Step::Hide,
     Step::Copy,
@@ -23,6 +23,7 @@ const STEPS: [Step; 10] = [
     Step::Release,
     Step::Merge,
     Step::Open,
+    Step::Fence,
     Step::Look,
 ];
 
@@ -294,9 +295,16 @@ fn step_in(word: &[u8]) -> Option<StepWord>
 fn step_named(word: &[u8]) -> Option<Step>
     ensures { result ≡ step_named word.now }
 {
-    for step in STEPS {
-        if is_word(word, name_of(step)) {
-            return Some(step);
+    step_among(&STEPS, word)
+}
+
+/// Returns the first of these steps that has a name, if one has it.
+fn step_among(steps: &[Step], word: &[u8]) -> Option<Step>
+    ensures { result ≡ find (is_named word.now) steps.now }
+{
+    for step in steps {
+        if is_word(word, name_of(*step)) {
+            return Some(*step);
         }
     }
     None
@@ -316,6 +324,7 @@ pub(crate) fn name_of(step: Step) -> &'static [u8]
         Step::Release | Step::ReleaseDirty => b"release",
         Step::Merge => b"merge",
         Step::Open | Step::OpenSource | Step::OpenDestination => b"open",
+        Step::Fence => b"fence",
         Step::Look => b"look",
     }
 }

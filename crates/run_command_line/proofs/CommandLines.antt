@@ -11,6 +11,7 @@ use Rattle.clap.specs.declared.parser.matches.ArgMatches.TheViews.{out-ArgMatche
 use Rattle.clap.specs.declared.parser.matches.Found.{Found}
 use Rattle.clap.proofs.OnLiterals.{clap_on_literals}
 use Rattle.clap.proofs.WalkLemmas.{first_value-rows}
+use Rattle.model_otherwise.specs.declared.timing.Making.TheVariants.{Split, Stale, Whole}
 use Rattle.run_command_line.specs.Conditions.{ConditionTexts, no_condition}
 use Rattle.run_command_line.specs.CommandLine.{Asked, IsSaidOf, asked, asked_by, asked_in, asked_of, is_taken, kinds_of, check_of, csv, draw_html_of, draw_of, draw_text_of, every, explore_of, live_of, meshrun_app, plot, share, table, conditions_asked, conditions_found, conditions_in, explains_asked, explains_found, explains_in, replay_echo_of, replay_history_of, replay_of, savings_of, tells_all, tells_answer, tells_outcome, tells_steps, tells_verdict, threads_history_of, threads_of, threads_report_of}
 
@@ -221,7 +222,16 @@ tellings_are_asked :
       meshes = record { source = 1; destination = 0 } ∷ [];
       cancel = None;
       states = 100000;
-      told = tells_steps (record { list = Some (codes "copy"); commands = Some 2 });
+      told = tells_steps (record { list = Some (codes "copy"); commands = Some 2; timing = record { loads = Whole; stores = Whole; frees = Whole } });
+      allows_no_mesh = false;
+      is_watched = false;
+    }))
+    × Asks (codes "explore a.job --store=stale --free split --any 2 --mesh 1:0 --load stale")
+    (explore_of (codes "a.job") (record {
+      meshes = record { source = 1; destination = 0 } ∷ [];
+      cancel = None;
+      states = 100000;
+      told = tells_steps (record { list = None; commands = Some 2; timing = record { loads = Stale; stores = Stale; frees = Split } });
       allows_no_mesh = false;
       is_watched = false;
     }))
@@ -235,7 +245,17 @@ tellings_are_asked :
       is_watched = false;
     }))
 unfolding clap_on_literals asked is_taken
-tellings_are_asked = ((refl, refl), (refl, refl), (refl, refl), (refl, refl))
+tellings_are_asked = ((refl, refl), (refl, refl), (refl, refl), (refl, refl), (refl, refl))
+
+-- how accesses are made is read by its option, and needs a client
+timings_ask_nothing :
+    (asked (spoken (codes "explore a.job --mesh 1:0 --steps copy --store split")) ≡ None)
+    × (asked (spoken (codes "explore a.job --mesh 1:0 --free split")) ≡ None)
+    × (asked (spoken (codes "explore a.job --mesh 1:0 --any 2 --store whole")) ≡ None)
+    × (asked (spoken (codes "explore a.job --mesh 1:0 --any 2 --load split")) ≡ None)
+    × (asked (spoken (codes "explore a.job --mesh 1:0 --any 2 --free stale")) ≡ None)
+unfolding clap_on_literals asked
+timings_ask_nothing = (refl, refl, refl, refl, refl)
 
 -- the conditions come in their order, each kind by itself, and a replay has none
 conditions_are_asked :

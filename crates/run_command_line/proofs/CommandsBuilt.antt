@@ -1,11 +1,12 @@
 -- What `clap`'s contracts say of a command that is built.
-use Rattle.std.proofs.Common.{◌≡◌, ◌∙◌, Bool, true, false, ap, ap₂, refl, sym}
+use Rattle.std.proofs.Common.{◌≡◌, ◌∙◌, Bool, true, false, IfOk, Result, ap, ap₂, refl, subst, sym}
 use Rattle.std.proofs.Math.Bool.{and-false}
 use Rattle.clap.specs.Walk.{is_simple_arg}
 use Rattle.clap.specs.Words.{AddsArg, AddsSubcommand, App, Rule, app_of, rule_of, shape_of, with_rule, with_subcommand}
 use Rattle.clap.specs.declared.builder.arg.Arg.{Arg}
 use Rattle.clap.specs.declared.builder.command.Command.{Command}
 use Rattle.clap.specs.declared.builder.command.Command.TheViews.{out-Command}
+use Rattle.run_command_line.specs.CommandLine.{check_app, explore_app, judging_app, runs_app}
 
 -- a simple argument is not global
 local_arg : (a : Arg) → (rule_of a).is_simple ≡ true → a.global ≡ false
@@ -39,3 +40,9 @@ pub with_command : (old sub new : Command) (app below : App) → AddsSubcommand 
     → app_of new ≡ with_subcommand app below.top
 with_command old sub new app below adds old_is is plain =
     adds.shape (local_command sub (ap (λ (x : App). x.top.is_plain) is ∙ plain)) ∙ ap₂ with_subcommand old_is (ap (λ (x : App). x.top) is)
+
+-- the program with the subcommands that judge, by what it was without them
+pub judging_of : {E : Type 0} (result : Result Command E) (app : App) → app ≡ runs_app
+    → IfOk result (λ new. app_of new ≡ with_subcommand (with_subcommand app explore_app.top) check_app.top) → IfOk result (λ new. app_of new ≡ judging_app)
+judging_of result app is built =
+    subst (λ (a : App). IfOk result (λ new. app_of new ≡ with_subcommand (with_subcommand a explore_app.top) check_app.top)) is built

@@ -4,4 +4,5 @@ pub mod ExplorationsRead
 pub mod NumbersRead
 pub mod SeedsRead
 pub mod Subcommands
+pub mod TimingsRead
 pub mod ToldRead

@@ -5,7 +5,8 @@ use Rattle.std.specs.Prelude.{option_and_then}
 use Rattle.clap.specs.Words.{Text, first_of, first_value, matched_of, raw_values, rows_of}
 use Rattle.clap.specs.declared.parser.matches.Found.{Found}
 use Rattle.clap.proofs.WalkLemmas.{first_value-rows, raw_values-rows}
-use Rattle.run_command_line.specs.CommandLine.{ShownAnswer, ToldOf, asks_verdict, few_texts, given_in, listing_told_in, of_given, other_list, shown_given_in, shown_of_text, texts_in, told_by, told_in, told_where, told_with}
+use Rattle.model_otherwise.specs.declared.timing.Timing.{Timing}
+use Rattle.run_command_line.specs.CommandLine.{ShownAnswer, ToldOf, asks_verdict, few_texts, given_in, listing_told_in, of_given, other_list, shown_given_in, shown_of_text, texts_in, timing_in, told_by, told_in, told_where, told_with}
 use Rattle.run_command_line.specs.Conditions.{ConditionTexts}
 
 -- more than ten
@@ -64,17 +65,23 @@ module _ (found : Found) where
   no_answer conditions witness witness_is is =
       ap (option_and_then (told_where (first_of (codes "expect") (rows_of found)) conditions witness)) is ∙ ap (option_and_then (listing_with conditions)) witness_is
 
-  -- what is told, by what is told of outcomes
-  abbrev told_beside : ToldOf → Option ToldOf
-  told_beside listing =
-      option_and_then (λ (commands : Option ℕ). told_with (other_list (first_of (codes "steps") (rows_of found))) commands listing)
-      (given_in (codes "any") 0 1000 (rows_of found))
+  -- what is told, by what is told of outcomes, by how many commands a client gives, and by how accesses are made
+  abbrev told_timed : ToldOf → Option ℕ → Timing → Option ToldOf
+  told_timed listing commands timing = told_with (other_list (first_of (codes "steps") (rows_of found))) commands timing listing
 
-  pub told_is : (conditions : ConditionTexts) (listing : ToldOf) (commands : Option ℕ) (steps list : Option Text) (told : Option ToldOf)
+  abbrev told_after : ToldOf → Option ℕ → Option ToldOf
+  told_after listing commands = option_and_then (told_timed listing commands) (timing_in (rows_of found))
+
+  abbrev told_beside : ToldOf → Option ToldOf
+  told_beside listing = option_and_then (told_after listing) (given_in (codes "any") 0 1000 (rows_of found))
+
+  pub told_is : (conditions : ConditionTexts) (listing : ToldOf) (commands : Option ℕ) (timing : Timing) (steps list : Option Text) (told : Option ToldOf)
       → Some listing ≡ listing_told_in conditions (rows_of found) → Some commands ≡ given_in (codes "any") 0 1000 (rows_of found)
-      → steps ≡ first_value found (codes "steps") → list ≡ other_list steps → told ≡ told_with list commands listing → told ≡ told_in conditions (rows_of found)
-  told_is conditions listing commands steps list told listing_is commands_are steps_are list_is is =
+      → Some timing ≡ timing_in (rows_of found) → steps ≡ first_value found (codes "steps") → list ≡ other_list steps
+      → told ≡ told_with list commands timing listing → told ≡ told_in conditions (rows_of found)
+  told_is conditions listing commands timing steps list told listing_is commands_are timing_is steps_are list_is is =
       is
-      ∙ ap (λ (l : Option Text). told_with l commands listing) (list_is ∙ ap other_list (steps_are ∙ first_value-rows found (codes "steps")))
-      ∙ ap (option_and_then (λ (c : Option ℕ). told_with (other_list (first_of (codes "steps") (rows_of found))) c listing)) commands_are
+      ∙ ap (λ (l : Option Text). told_with l commands timing listing) (list_is ∙ ap other_list (steps_are ∙ first_value-rows found (codes "steps")))
+      ∙ ap (option_and_then (told_timed listing commands)) timing_is
+      ∙ ap (option_and_then (told_after listing)) commands_are
       ∙ ap (option_and_then told_beside) listing_is

@@ -12,6 +12,10 @@ use Rattle.clap.specs.declared.builder.value_parser.ValueParser.TheVariants.{Uns
 use Rattle.clap.specs.declared.error.kind.ErrorKind.{ErrorKind}
 use Rattle.clap.specs.declared.error.kind.ErrorKind.TheVariants.{DisplayHelp, DisplayVersion, OutOfMemory, ValueValidation}
 use Rattle.model_jobs.specs.Texts.{ended}
+use Rattle.model_otherwise.specs.Timed.{is_plain}
+use Rattle.model_otherwise.specs.declared.timing.Making.{Making}
+use Rattle.model_otherwise.specs.declared.timing.Making.TheVariants.{Split, Stale, Whole}
+use Rattle.model_otherwise.specs.declared.timing.Timing.{Timing}
 use Rattle.run_command_line.specs.Meshes.{pairs_of}
 use Rattle.run_command_line.specs.Conditions.{ConditionTexts, conditions_of, has_condition, no_condition}
 use Rattle.run_command_line.specs.declared.check_args.CheckArgs.{CheckArgs}
@@ -93,12 +97,12 @@ live_app = with_rule (with_rule (with_rule (new_app (codes "live")) (number_or (
     (number_or (codes "history") 0 65536 (codes "65536"))) (number_or (codes "workers") 1 64 (codes "64"))
 
 -- `explore FILE --mesh SRC:DST [--mesh ..] [--cancel AFTER] [--states N] [--witness K | --show LINE:ANSWER:PHASE |
--- [--expect FILE] [--never COND ..] [--always COND ..] [--exists COND ..] | [--steps LIST] [--any N]] [--allow-no-mesh]
--- [--progress]`
+-- [--expect FILE] [--never COND ..] [--always COND ..] [--exists COND ..] |
+-- [--steps LIST] [--any N [--store split|stale] [--load stale] [--free split]]] [--allow-no-mesh] [--progress]`
 abbrev pub explore_app : App
-explore_app = with_rule (with_rule (with_rule (with_rule (with_rule (with_rule (with_rule (with_rule (with_rule (with_rule (with_rule (with_rule (with_rule (with_rule (new_app (codes "explore")) file_rule) mesh_rule)
+explore_app = with_rule (with_rule (with_rule (with_rule (with_rule (with_rule (with_rule (with_rule (with_rule (with_rule (with_rule (with_rule (with_rule (with_rule (with_rule (with_rule (with_rule (new_app (codes "explore")) file_rule) mesh_rule)
     (number_rule (codes "cancel") 0 1000)) (number_or (codes "states") 1 10000000 (codes "100000"))) (number_rule (codes "witness") 0 4294967295))
-    (text_rule (codes "show"))) (text_rule (codes "expect"))) (texts_rule (codes "never"))) (texts_rule (codes "always"))) (texts_rule (codes "exists"))) (text_rule (codes "steps"))) (number_rule (codes "any") 0 1000)) (flag_rule (codes "allow-no-mesh"))) (flag_rule (codes "progress"))
+    (text_rule (codes "show"))) (text_rule (codes "expect"))) (texts_rule (codes "never"))) (texts_rule (codes "always"))) (texts_rule (codes "exists"))) (text_rule (codes "steps"))) (number_rule (codes "any") 0 1000)) (text_rule (codes "store"))) (text_rule (codes "load"))) (text_rule (codes "free"))) (flag_rule (codes "allow-no-mesh"))) (flag_rule (codes "progress"))
 
 -- `check FILE [--configurations N] [--order] [--witness]`
 abbrev pub check_app : App
@@ -172,11 +176,12 @@ pub record Judged : Type 0 where
   pub expect : Option Text
   pub conditions : ConditionTexts
 
--- the list of steps by which meshes are made, `None` for the steps of the heap's own meshes, and how many commands a
--- client gives at most, if a client gives them
+-- the list of steps by which meshes are made, `None` for the steps of the heap's own meshes, how many commands a client
+-- gives at most, if a client gives them, and how loads, stores and frees are made
 pub record Stepped : Type 0 where
   pub list : Option Text
   pub commands : Option ℕ
+  pub timing : Timing
 
 -- what is printed of an exploration: all outcomes, one outcome or one answer as a job file, a verdict, or a report on
 -- meshes that are made by a list of steps
@@ -449,17 +454,41 @@ steps_told stepped (tells_answer shown) = None
 steps_told stepped (tells_verdict judged) = None
 steps_told stepped (tells_steps other) = None
 
--- what is printed, with this list of steps, if any, and this number of commands of a client, if any
-abbrev pub told_with : Option Text → Option ℕ → ToldOf → Option ToldOf
-told_with None None told = Some told
-told_with (Some list) commands told = steps_told (record { list = Some list; commands = commands }) told
-told_with None (Some commands) told = steps_told (record { list = None; commands = Some commands }) told
+-- how stores are made, by the text of `--store`, if it is given. `None` if it is another text
+abbrev pub store_making : Option Text → Option Making
+store_making None = Some Whole
+store_making (Some text) =
+    if bytes_eq text (codes "split") then Some Split else (if bytes_eq text (codes "stale") then Some Stale else None)
+
+-- how loads are made, by the text of `--load`, if it is given. `None` if it is another text
+abbrev pub load_making : Option Text → Option Making
+load_making None = Some Whole
+load_making (Some text) = if bytes_eq text (codes "stale") then Some Stale else None
+
+-- how frees are made, by the text of `--free`, if it is given. `None` if it is another text
+abbrev pub free_making : Option Text → Option Making
+free_making None = Some Whole
+free_making (Some text) = if bytes_eq text (codes "split") then Some Split else None
+
+-- how loads, stores and frees are made according to the matches
+abbrev pub timing_in : List Row → Option Timing
+timing_in rows =
+    option_and_then (λ stores. option_and_then (λ loads. option_map (λ frees. record { loads = loads; stores = stores; frees = frees })
+    (free_making (first_of (codes "free") rows))) (load_making (first_of (codes "load") rows))) (store_making (first_of (codes "store") rows))
+
+-- what is printed, with this list of steps, if any, this number of commands of a client, if any, and accesses that are
+-- made so. Only a client makes accesses in two moves
+abbrev pub told_with : Option Text → Option ℕ → Timing → ToldOf → Option ToldOf
+told_with None None timing told = if is_plain timing then Some told else None
+told_with (Some list) None timing told = if is_plain timing then steps_told (record { list = Some list; commands = None; timing = timing }) told else None
+told_with list (Some commands) timing told = steps_told (record { list = list; commands = Some commands; timing = timing }) told
 
 -- what is printed according to the matches, with these conditions
 abbrev pub told_in : ConditionTexts → List Row → Option ToldOf
 told_in conditions rows =
-    option_and_then (λ told. option_and_then (λ commands. told_with (other_list (first_of (codes "steps") rows)) commands told)
-    (given_in (codes "any") 0 1000 rows)) (listing_told_in conditions rows)
+    option_and_then (λ told. option_and_then (λ commands. option_and_then (λ timing.
+    told_with (other_list (first_of (codes "steps") rows)) commands timing told)
+    (timing_in rows)) (given_in (codes "any") 0 1000 rows)) (listing_told_in conditions rows)
 
 -- whether a report on meshes that are made by a list of steps is printed
 abbrev pub is_of_steps : ToldOf → Bool
@@ -627,7 +656,7 @@ told_of conditions All = tells_all
 told_of conditions (Outcome number) = tells_outcome number
 told_of conditions (Answer shown) = tells_answer (shown_answer_of shown)
 told_of conditions (Verdict expect) = tells_verdict (record { expect = option_map (λ path. path.now) expect; conditions = conditions })
-told_of conditions (Steps args) = tells_steps (record { list = option_map (λ list. list.now) args.list; commands = args.commands })
+told_of conditions (Steps args) = tells_steps (record { list = option_map (λ list. list.now) args.list; commands = args.commands; timing = args.timing })
 
 -- the exploration in parsed arguments, with these conditions
 abbrev pub explored_of : ConditionTexts → ExploreArgs → Explored

@@ -2,6 +2,7 @@
 ghost use Rattle.run_command_line.specs.ExploreArgs.{AreInRange};
 
 use crate::Meshes;
+use model_otherwise::Timing;
 
 /// The arguments of `explore` other than its file. The type guarantees that `meshes`, `cancel` and `states` are in
 /// their ranges.
@@ -38,13 +39,15 @@ pub enum Told<'a> {
     Steps(StepsArgs<'a>),
 }
 
-/// The list of steps by which meshes are made, and who gives commands.
+/// The list of steps by which meshes are made, who gives commands, and how a client's accesses are made.
 #[derive(Clone, Copy)]
 pub struct StepsArgs<'a> {
     /// The list of steps. `None` for the steps of the heap's own meshes.
     pub list: Option<&'a str>,
     /// The greatest number of commands that a client gives, 0 to 1,000. `None` if the job's workers give theirs.
     pub commands: Option<u32>,
+    /// How loads, stores and frees are made.
+    pub timing: Timing,
 }
 
 /// The answer that `--show` names.

@@ -6,10 +6,10 @@ use crate::clap_command::{PROGRAM, subcommand_of};
 use crate::conditions::texts;
 use crate::mesh_texts::{first_unread, meshes};
 use crate::options::{
-    ALWAYS, COLUMNS, CONDITION, DRAW, EXISTS, EXPLORE, HTML, MESH, NEVER, REPLAY, SAVINGS, SHOW,
-    Subcommand, TEXT, THREADS,
+    ALWAYS, ANY, COLUMNS, CONDITION, DRAW, EXISTS, EXPLORE, HTML, MESH, NEVER, REPLAY, SAVINGS,
+    SHOW, Subcommand, TEXT, THREADS,
 };
-use crate::told::shown_answer;
+use crate::told::{is_plain, shown_answer, timing};
 use crate::values::{has_value, is_given};
 use clap::error::ErrorKind;
 use clap::{ArgMatches, Command, Error};
@@ -33,6 +33,11 @@ const BEYOND_LAST: &str = "--from is greater than --to";
 
 /// The error message if both flags of `threads` that select what is printed are given.
 const THREADS_TWICE: &str = "--history and --report exclude each other";
+
+/// The error message if an option of `explore` for how a client's accesses are made can't be read, or is given without
+/// a client.
+const UNREAD_TIMING: &str =
+    "--store is split or stale, --load is stale and --free is split, and each needs --any";
 
 /// The error message if options of `explore` exclude each other.
 const TOLD_TWICE: &str =
@@ -159,8 +164,8 @@ fn named_command<'a>(
 }
 
 /// Returns the message about options of `explore` that the program doesn't accept. The reasons are meshes that can't be
-/// read or are too many, an option that is given more than ten times, an answer that can't be read, and options that
-/// exclude each other.
+/// read or are too many, an option that is given more than ten times, an answer that can't be read, accesses that can't
+/// be made as asked for, and options that exclude each other.
 fn explore_message<'a>(alloc: Global, matches: &ArgMatches<'a>) -> Result<String, AllocError> {
     if meshes(matches).is_none() {
         return mesh_message(alloc, matches);
@@ -174,7 +179,17 @@ fn explore_message<'a>(alloc: Global, matches: &ArgMatches<'a>) -> Result<String
         Some(text) if shown_answer(text).is_none() => format!(in alloc;
             "invalid value '{text}' for '--show <LINE:ANSWER:PHASE>': the number of a line, an answer and a phase with colons between them"
         ),
+        _ if !has_read_timing(matches) => String::from_str(alloc, UNREAD_TIMING),
         _ => String::from_str(alloc, TOLD_TWICE),
+    }
+}
+
+/// Whether accesses can be made as asked for: each text can be read, and a client is given if any access is made in two
+/// moves.
+fn has_read_timing<'a>(matches: &ArgMatches<'a>) -> bool {
+    match timing(matches) {
+        Some(timing) => is_plain(timing) || has_value(matches, ANY.name),
+        None => false,
     }
 }
 

@@ -292,6 +292,39 @@ const ANY_OPTION: NumberOption = NumberOption {
     help: "Let a client give up to N commands of any kind instead of the job's workers, and report what goes wrong, 0 to 1000",
 };
 
+/// The name of how accesses are made in the help.
+const HOW: &str = "HOW";
+
+pub(crate) const STORE: &str = "store";
+
+const STORE_OPTION: TextOption = TextOption {
+    name: STORE,
+    value: HOW,
+    help: "Let a client's stores be two moves: a check, and a write through the page map (split) or to the page that was found (stale)",
+};
+
+pub(crate) const LOAD: &str = "load";
+
+const LOAD_OPTION: TextOption = TextOption {
+    name: LOAD,
+    value: HOW,
+    help: "Let a client's loads be two moves: a look-up, and a read of the page that was found (stale)",
+};
+
+pub(crate) const FREE: &str = "free";
+
+const FREE_OPTION: TextOption = TextOption {
+    name: FREE,
+    value: HOW,
+    help: "Let a client's frees be two moves: a look-up of the object's group, and the free (split)",
+};
+
+/// The text of `--store` and `--free` that means the second move uses the page map, or the groups, as they are then.
+pub(crate) const SPLIT: &str = "split";
+
+/// The text of `--store` and `--load` that means the second move uses the page that the first one found.
+pub(crate) const STALE: &str = "stale";
+
 pub(crate) const EXPECT: &str = "expect";
 
 const EXPECT_OPTION: TextOption = TextOption {
@@ -553,6 +586,9 @@ pub(crate) const EXPLORE: Subcommand = Subcommand {
         Argument::Texts(EXISTS_OPTION),
         Argument::Text(STEPS_OPTION),
         Argument::Optional(ANY_OPTION),
+        Argument::Text(STORE_OPTION),
+        Argument::Text(LOAD_OPTION),
+        Argument::Text(FREE_OPTION),
         Argument::Flag(
             ALLOW_NO_MESH,
             "Let a verdict be positive although some mesh begins in no interleaving",

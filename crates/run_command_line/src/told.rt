@@ -1,26 +1,32 @@
 //! The selection of what an exploration prints.
 ghost use Rattle.std.specs.Prelude.{◌≡◌, option_map};
 ghost use Rattle.clap.specs.Words.{found_of, rows_of};
+ghost use Rattle.model_otherwise.specs.Timed.{is_plain, is_whole};
 ghost use Rattle.run_command_line.specs.Conditions.{ConditionTexts, conditions_of};
-ghost use Rattle.run_command_line.specs.CommandLine.{asks_verdict, listing_told_in, number_of, other_list, shown_answer_of, shown_behind, shown_given_in, shown_of_text, told_by, told_in, told_of, told_with};
+ghost use Rattle.run_command_line.specs.CommandLine.{asks_verdict, free_making, listing_told_in, load_making, number_of, other_list, shown_answer_of, shown_behind, shown_given_in, shown_of_text, store_making, timing_in, told_by, told_in, told_of, told_with};
 
-use crate::options::{ANY, EXPECT, RIGHT_STEPS, SHOW, STEPS, WITNESS};
+use crate::options::{
+    ANY, EXPECT, FREE, LOAD, RIGHT_STEPS, SHOW, SPLIT, STALE, STEPS, STORE, WITNESS,
+};
 use crate::values::{BETWEEN, number_if_given, spelt_number};
 use crate::{Conditions, ShownArgs, StepsArgs, Told};
 use clap::ArgMatches;
+use model_otherwise::{Making, Timing};
 
 /// The greatest number of a line in an option.
 const LAST_LINE: u64 = 4294967295;
 
 /// Returns the selection of what an exploration prints. Returns `None` if more than one of an outcome, an answer, a
-/// verdict and a report on steps is asked for, or if a number or the answer can't be read.
+/// verdict and a report on steps is asked for, if a number, the answer or how an access is made can't be read, or if
+/// accesses are made in two moves without a client.
 pub(crate) fn told<'a>(matches: &ArgMatches<'a>, conditions: &Conditions<'a>) -> Option<Told<'a>>
     ensures { option_map (told_of (conditions_of conditions.now)) result
         ≡ told_in (conditions_of conditions.now) (rows_of (found_of matches.now)) }
 {
     let told = listing_told(matches, conditions)?;
     let commands = number_if_given(matches, ANY)?;
-    told_with(other_list(matches.get_str(STEPS)), commands, told)
+    let timing = timing(matches)?;
+    told_with(other_list(matches.get_str(STEPS)), commands, timing, told)
 }
 
 /// Returns the list of steps that a text names. Returns `None` for the steps of the heap's own meshes.
@@ -34,17 +40,93 @@ fn other_list<'a>(text: Option<&'a str>) -> Option<&'a str>
     Some(list)
 }
 
-/// Returns the selection of what an exploration prints, if `told` is asked for of outcomes. A report on steps is
-/// printed if a list of steps or a client is asked for. Returns `None` if `told` asks for something else too.
-fn told_with<'a>(list: Option<&'a str>, commands: Option<u32>, told: Told<'a>) -> Option<Told<'a>>
-    ensures { (conditions : ConditionTexts) → option_map (told_of conditions) result
-        ≡ told_with (option_map (λ list. list.now) list.entry) commands (told_of conditions told.entry) }
+/// Returns how loads, stores and frees are made, which is in one move if their options aren't given. Returns `None` if
+/// the text of an option can't be read.
+pub(crate) fn timing<'a>(matches: &ArgMatches<'a>) -> Option<Timing>
+    ensures { result ≡ timing_in (rows_of (found_of matches.now)) }
 {
+    let stores = store_making(matches.get_str(STORE))?;
+    let loads = load_making(matches.get_str(LOAD))?;
+    let frees = free_making(matches.get_str(FREE))?;
+    Some(Timing {
+        loads,
+        stores,
+        frees,
+    })
+}
+
+/// Returns how stores are made, by the text of `--store`, or `None` if the text can't be read.
+fn store_making(text: Option<&str>) -> Option<Making>
+    ensures { result ≡ store_making (option_map (λ text. text.now) text.entry) }
+{
+    match text {
+        None => Some(Making::Whole),
+        Some(SPLIT) => Some(Making::Split),
+        Some(STALE) => Some(Making::Stale),
+        Some(_) => None,
+    }
+}
+
+/// Returns how loads are made, by the text of `--load`, or `None` if the text can't be read.
+fn load_making(text: Option<&str>) -> Option<Making>
+    ensures { result ≡ load_making (option_map (λ text. text.now) text.entry) }
+{
+    match text {
+        None => Some(Making::Whole),
+        Some(STALE) => Some(Making::Stale),
+        Some(_) => None,
+    }
+}
+
+/// Returns how frees are made, by the text of `--free`, or `None` if the text can't be read.
+fn free_making(text: Option<&str>) -> Option<Making>
+    ensures { result ≡ free_making (option_map (λ text. text.now) text.entry) }
+{
+    match text {
+        None => Some(Making::Whole),
+        Some(SPLIT) => Some(Making::Split),
+        Some(_) => None,
+    }
+}
+
+/// Whether each access is made in one move.
+pub(crate) fn is_plain(timing: Timing) -> bool
+    ensures { result ≡ is_plain timing }
+{
+    is_whole(timing.loads) && is_whole(timing.stores) && is_whole(timing.frees)
+}
+
+/// Whether an access that is made so is one move.
+fn is_whole(making: Making) -> bool
+    ensures { result ≡ is_whole making }
+{
+    matches!(making, Making::Whole)
+}
+
+/// Returns the selection of what an exploration prints, if `told` is asked for of outcomes. A report on steps is
+/// printed if a list of steps or a client is asked for. Returns `None` if `told` asks for something else too, or if
+/// accesses are made in two moves without a client.
+fn told_with<'a>(
+    list: Option<&'a str>,
+    commands: Option<u32>,
+    timing: Timing,
+    told: Told<'a>,
+) -> Option<Told<'a>>
+    ensures { (conditions : ConditionTexts) → option_map (told_of conditions) result
+        ≡ told_with (option_map (λ list. list.now) list.entry) commands timing (told_of conditions told.entry) }
+{
+    if commands.is_none() && !is_plain(timing) {
+        return None;
+    }
     if list.is_none() && commands.is_none() {
         return Some(told);
     }
     match told {
-        Told::All => Some(Told::Steps(StepsArgs { list, commands })),
+        Told::All => Some(Told::Steps(StepsArgs {
+            list,
+            commands,
+            timing,
+        })),
         _ => None,
     }
 }

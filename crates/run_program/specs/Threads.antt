@@ -3,7 +3,7 @@ use Rattle.std.specs.Prelude.{◌≡◌, ℕ, ◌<◌, ◌≤◌, Bool, false, L
 use Rattle.std.specs.Io.KnownBytes.{Appends, Keeps}
 use Rattle.std.specs.List.{sum_by}
 use Rattle.model_jobs.specs.Jobs.{Job}
-use Rattle.model_memory.specs.Memory.{Memory, empty_memory}
+use Rattle.model_memory.specs.Memory.{empty_memory}
 use Rattle.model_heap.specs.Table.{empty_table}
 use Rattle.model_words.specs.declared.commands.Command.{Command}
 use Rattle.mesh_mutator.specs.Book.{Book, memory_in, memory_of_book, table_of_book}

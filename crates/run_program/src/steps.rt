@@ -1,21 +1,31 @@
 //! The program's report on meshes that are made by a list of steps.
-ghost use Rattle.std.specs.Prelude.{◌≡◌, false, IfErr, IfOk, OnOk, map};
+ghost use Rattle.std.specs.Prelude.{◌≡◌, ◌+◌, ◌-◌, ◌≤◌, ◌++◌, [], false, IfErr, IfOk, OnOk, length, map, slice_index_or};
 ghost use Rattle.model_jobs.specs.Texts.{ended};
-ghost use Rattle.run_program.specs.Runs.{IsSound};
-ghost use Rattle.run_program.specs.Steps.{EndsSteps, HasFailedSteps, HasReportedBy, HasStoppedSteps, list_fault_text, list_text, pair_asked, steps_status, steps_text};
+ghost use Rattle.run_program.specs.Runs.{HasTold, IsSound};
+ghost use Rattle.run_program.specs.Steps.{EndsSteps, HasFailedSteps, HasReportedBy, HasStoppedSteps, list_fault_text, list_text, pair_asked, steps_status, steps_text, word_shown, word_text};
+ghost use Rattle.text_fields.specs.Lines.{line_fields};
 
-use crate::fault_line::{Line, line_of, line_with, number_line};
+use crate::fault_line::{line_of, number_line};
 use crate::runs::{status_of, tell};
 use crate::{Devices, ExploreArgs, MeshPair, StepsArgs};
+use arrayvec::ArrayVec;
 use explore_otherwise::Pair;
+use itoa::Buffer;
 use otherwise_report::{ListFault, StepsError, StepsOptions, explore_steps};
 use run_command_line::status::{DONE, FAULTY, NEGATIVE, UNDECIDED};
 use states_reach::Watch;
 use std::alloc::{AllocError, Global};
 use text_devices::{Sink, Source};
+use text_fields::lines::cut;
 
 /// The list of the steps of the heap's own meshes.
 const RIGHT_STEPS: &[u8] = b"protect copy remap unprotect release";
+
+/// The greatest number of bytes of a word that a fault shows.
+const SHOWN_BYTES: usize = 40;
+
+/// The bytes of a line about a list of steps, with room for the longest.
+type WordLine = ArrayVec<u8, 128>;
 
 /// Explores the job in the input with meshes that are made by the list of steps that is asked for, writes the report to
 /// the output or a fault to `errors`, and returns the exit status.
@@ -40,10 +50,7 @@ pub(crate) fn steps_run<I: Source, O: Sink, E: Sink, W: Watch>(
         Ok(true) => DONE,
         Ok(false) => NEGATIVE,
         Err(error) => {
-            tell(
-                &mut devices.errors,
-                steps_line_of(error, args.states).as_slice(),
-            );
+            tell_stopped(&mut devices.errors, error, list_of(asked), args.states);
             steps_status_of(error)
         }
     }
@@ -72,6 +79,7 @@ fn write_report<I: Source, O: Sink, W: Watch>(
         steps: list_of(asked),
         meshes: meshes.as_slice(),
         commands: asked.commands,
+        timing: asked.timing,
         states: args.states,
         must_begin: !args.allows_no_mesh,
     };
@@ -102,47 +110,106 @@ fn list_of<'a>(asked: &StepsArgs<'a>) -> &'a [u8]
     }
 }
 
-/// The line of an error, with a line end. The exploration's limit is `states` states.
-fn steps_line_of(error: StepsError, states: u32) -> Line
-    ensures { result.items ≡ ended (steps_text states error) }
+/// Writes the line of an error of an exploration with this list of steps and at most this number of states.
+fn tell_stopped<E: Sink>(errors: &mut E, error: StepsError, list: &[u8], states: u32)
+    ensures { HasTold (E.has_failed errors.new) (E.written errors.old) (E.written errors.new)
+        (ended (steps_text list.now states error)) }
 {
     match error {
-        StepsError::Replay(error) => line_of(error),
-        StepsError::TooManyStates => number_line(
-            b"too many states: more than ",
-            states,
-            b"; --states raises the limit",
-        ),
-        StepsError::Steps(fault) => list_fault_line(fault),
+        StepsError::Replay(error) => tell(errors, line_of(error).as_slice()),
+        StepsError::TooManyStates => {
+            let behind = b"; --states raises the limit";
+            let line = number_line(b"too many states: more than ", states, behind);
+            tell(errors, line.as_slice());
+        }
+        StepsError::Steps(fault) => tell(errors, list_fault_line(list, fault).as_slice()),
         StepsError::PlanLine(number) => {
-            number_line(
-                b"plan line ",
-                number,
-                b": neither an answered run nor a whole mesh",
-            )
+            let behind = b": neither an answered run nor a whole mesh";
+            tell(
+                errors,
+                number_line(b"plan line ", number, behind).as_slice(),
+            );
         }
     }
 }
 
 /// The line for a text that is no list of steps, with a line end.
-fn list_fault_line(fault: ListFault) -> Line
-    ensures { result.items ≡ ended (list_fault_text fault) }
+fn list_fault_line(list: &[u8], fault: ListFault) -> WordLine
+    ensures { result.items ≡ ended (list_fault_text list.now fault) }
 {
     match fault {
         ListFault::WordCount => {
-            line_with(b"--steps: 1 to 12 phases with one space between words")
+            whole_line(b"--steps: 1 to 12 phases with one space between words")
         }
-        ListFault::NoStep(number) => number_line(b"--steps: word ", number, b": no step"),
-        ListFault::NotJoined(number) => {
-            number_line(b"--steps: word ", number, b": steps that can't be joined")
-        }
-        ListFault::NotByPage(number) => {
-            number_line(b"--steps: word ", number, b": not made page by page")
-        }
-        ListFault::Parenthesis(number) => {
-            number_line(b"--steps: word ", number, b": parenthesis out of place")
-        }
-        ListFault::Unclosed => line_with(b"--steps: ( without )"),
+        ListFault::NoStep(number) => word_line(list, number, b"no step"),
+        ListFault::NotJoined(number) => word_line(list, number, b"steps that can't be joined"),
+        ListFault::NotByPage(number) => word_line(list, number, b"not made page by page"),
+        ListFault::Parenthesis(number) => word_line(list, number, b"parenthesis out of place"),
+        ListFault::Unclosed => whole_line(b"--steps: ( without )"),
+    }
+}
+
+/// A line of these bytes, with a line end.
+fn whole_line(bytes: &[u8]) -> WordLine
+    requires { length bytes.now ≤ 100 }
+    ensures { result.items ≡ ended bytes.now }
+{
+    let mut line = WordLine::new();
+    add(&mut line, bytes);
+    add(&mut line, b"\n");
+    line
+}
+
+/// The line about the word of this number, with a line end.
+fn word_line(list: &[u8], number: u32, what: &[u8]) -> WordLine
+    requires { length what.now ≤ 26 }
+    ensures { result.items ≡ ended (word_text list.now number what.now) }
+{
+    let mut digits = Buffer::new();
+    let mut line = WordLine::new();
+    add(&mut line, b"--steps: word ");
+    add(&mut line, digits.format(number).as_bytes());
+    add(&mut line, b" '");
+    add(&mut line, word_shown(list, number));
+    add(&mut line, b"': ");
+    add(&mut line, what);
+    add(&mut line, b"\n");
+    line
+}
+
+/// Adds bytes; there must be room for them.
+fn add(line: &mut WordLine, bytes: &[u8])
+    requires { length line.old.items + length bytes.now ≤ 128 }
+    ensures { line.new.items ≡ line.old.items ++ bytes.now }
+{
+    line.try_extend_from_slice(bytes).unwrap();
+}
+
+/// Returns the word of a list that has this number, as far as it is shown.
+fn word_shown(list: &[u8], number: u32) -> &[u8]
+    ensures word { result.now ≡ word_shown list.now number }
+    ensures short { length result.now ≤ 40 }
+{
+    let word = word_of(list, number);
+    &word[..word.len().min(SHOWN_BYTES)]
+}
+
+/// Returns the word of a list that has this number, counted from 1, or nothing if there are fewer words.
+fn word_of(list: &[u8], number: u32) -> &[u8]
+    ensures { result.now ≡ slice_index_or (line_fields list.now) (number - 1) [] }
+{
+    let mut rest = list;
+    let mut left = number.saturating_sub(1);
+    while left > 0 {
+        let Some((_, behind)) = cut(rest, b' ') else {
+            return b"";
+        };
+        rest = behind;
+        left -= 1;
+    }
+    match cut(rest, b' ') {
+        Some((word, _)) => word,
+        None => rest,
     }
 }
 

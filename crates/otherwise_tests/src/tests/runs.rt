@@ -1,7 +1,7 @@
 //! Explorations of a job by a client.
 
 use explore_otherwise::{Asking, Explorer, Pair, Phase, Setting, Start, explored};
-use model_otherwise::{FaultKind, Tried};
+use model_otherwise::{FaultKind, Making, Timing, Tried};
 use states_reach::{Reached, Unwatched};
 use std::alloc::Global;
 use text_job::{Job, Script};
@@ -11,6 +11,13 @@ const MOST: usize = 100_000;
 
 /// The number of physical pages.
 const PAGES: u16 = 16;
+
+/// Each command is one move.
+const AT_ONCE: Timing = Timing {
+    loads: Making::Whole,
+    stores: Making::Whole,
+    frees: Making::Whole,
+};
 
 /// The groups of the mesh.
 static PAIRS: [Pair; 1] = [Pair {
@@ -61,6 +68,7 @@ pub(crate) fn run<'a>(
         version: job.version,
         room: commands,
         asking: Asking::Client(job.scripts.of(1)),
+        timing: AT_ONCE,
         pairs: &PAIRS,
     };
     explored(alloc, &setting, start, MOST, &mut Unwatched).ok()
