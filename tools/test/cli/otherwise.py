@@ -7,7 +7,10 @@ from cli.suite import NOTHING, execute, lines
 
 JOBS = pathlib.Path("jobs/otherwise")
 LISTS = (JOBS / "lists.txt").read_text().splitlines()
-WORDS = "protect hide copy remap unmap unprotect release merge look open".split()
+FENCED = (JOBS / "fences.txt").read_text().splitlines()
+# How a client's commands are made.
+TIMINGS = ["--store split", "--store stale", "--load stale", "--store stale --load stale", "--free split"]
+WORDS = "protect hide copy remap unmap unprotect release merge look open fence".split()
 # Steps with options.
 OPTIONS = "protect:1 hide:2 copy:700 copy:page remap:1 unprotect:2 release:1 release:dirty open:src open:dst".split()
 # Steps that are made page by page.
@@ -30,6 +33,15 @@ def cases(suite):
         for steps in LISTS:
             reports.append(compare(suite, engine, job, *meshes_of(job), "--steps", steps, "--any", 2))
     report_kinds(suite, "the lists", reports)
+    timed = []
+    for job in sorted(JOBS.glob("setting_*.job")):
+        for steps in FENCED:
+            for timing in TIMINGS:
+                words = "--steps", steps, "--any", 2, *timing.split()
+                timed.append(compare(suite, engine, job, *meshes_of(job), *words))
+    report_kinds(suite, "commands in two moves", timed)
+    between = [report for report in timed if b"-> begins" in report.output]
+    suite.report("steps: a plan has a command between its moves", [] if between else ["none has"])
     faults = [f"status {report.status}" for report in reports if report.status not in (0, 3)]
     suite.report("steps: each list has a report on each job", faults)
     report_kinds(suite, "random jobs", at_random(suite, engine))
@@ -66,6 +78,8 @@ def at_random(suite, engine):
         job = suite.write(f"random{run}.job", lines(random_job(numbers)))
         words = "--mesh", "1:0", "--states", STATES
         client = ["--any", numbers.randint(0, 3)] if numbers.random() < 0.4 else []
+        if client and numbers.random() < 0.5:
+            client += numbers.choice(TIMINGS).split()
         reports.append(compare(suite, engine, job, *words, "--steps", random_list(numbers), *client))
         right = compare(suite, engine, job, *words, "--steps", RIGHT)
         reports.append(right)
