@@ -13,13 +13,15 @@ reference = f"{room}/reference"
 MOST = ["--states", "10000000"]
 RIGHT = "protect copy remap unprotect release"
 ONE_MESH, TWO_MESHES = ["--mesh", "1:0"], ["--mesh", "1:0", "--mesh", "2:0"]
-# The setting, the list, the number of commands, and the meshes.
+FENCED = "protect fence copy remap unprotect fence release"
+# The setting, the list, the number of commands, the meshes, and how commands are made.
 RUNS = [
-    ("one", RIGHT, 7, ONE_MESH),
-    ("one", "copy protect remap unprotect release", 7, ONE_MESH),
-    ("two_spans", RIGHT, 4, ONE_MESH),
-    ("three_pages", RIGHT, 3, ONE_MESH),
-    ("two_meshes", RIGHT, 3, TWO_MESHES),
+    ("one", RIGHT, 7, ONE_MESH, []),
+    ("one", "copy protect remap unprotect release", 7, ONE_MESH, []),
+    ("two_spans", RIGHT, 4, ONE_MESH, []),
+    ("three_pages", RIGHT, 3, ONE_MESH, []),
+    ("two_meshes", RIGHT, 3, TWO_MESHES, []),
+    ("one", FENCED, 4, ONE_MESH, ["--store", "stale", "--load", "stale"]),
 ]
 
 
@@ -28,20 +30,20 @@ def main():
     smallest = ["jobs/otherwise/nothing.job", "--mesh", "0:0", "--steps", "copy", "--any", "0"]
     least = measured(room, [program, "explore", *smallest])[2]
     alike = True
-    print(f"{'setting, commands and list':46} {'states':>8} {'seconds':>8} {'states/s':>9} {'bytes/state':>11} {'ratio':>6}")
-    for setting, steps, commands, meshes in RUNS:
-        words = [f"jobs/otherwise/setting_{setting}.job", *meshes, "--steps", steps, "--any", commands, *MOST]
-        name = f"{setting} {commands} {'right' if steps == RIGHT else steps}"
+    print(f"{'setting, commands and list':62} {'states':>8} {'seconds':>8} {'states/s':>9} {'bytes/state':>11} {'ratio':>6}")
+    for setting, steps, commands, meshes, timing in RUNS:
+        words = [f"jobs/otherwise/setting_{setting}.job", *meshes, "--steps", steps, "--any", commands, *timing, *MOST]
+        name = f"{setting} {commands} {'right' if steps == RIGHT else steps}{', stale' if timing else ''}"
         ours, seconds, peak = measured(room, [program, "explore", *words])
         theirs, plain, _ = measured(room, [reference, *words])
         if not ours or ours != theirs:
-            print(f"{name:46} differs")
+            print(f"{name:62} differs")
             alike = False
             continue
         states = int(ours.split(b"\n")[1].split()[-1])
         bytes_each = max(peak - least, 0) * 1024 * 1024 / states
         speed, ratio = states / max(seconds, 0.01), seconds / max(plain, 0.01)
-        print(f"{name:46} {states:8} {seconds:8.2f} {speed:9.0f} {bytes_each:11.0f} {ratio:6.1f}")
+        print(f"{name:62} {states:8} {seconds:8.2f} {speed:9.0f} {bytes_each:11.0f} {ratio:6.1f}")
     return alike
 
 
