@@ -16,7 +16,17 @@ OPTIONS = "protect:1 hide:2 copy:700 copy:page remap:1 unprotect:2 release:1 rel
 # Steps that are made page by page.
 BY_PAGE = "protect hide copy:page remap unprotect release remap+unprotect release:dirty remap:2".split()
 RIGHT = "protect copy remap unprotect release"
+# The longest list, and lists that are too long by a phase or by a word.
+TWELVE = ["( protect )"] * 12
+LENGTHS = [
+    " ".join(["begin:unchecked", *TWELVE]),
+    " ".join([*TWELVE, "release"]),
+    " ".join(["begin:unchecked", *TWELVE[:11], "( protect copy:page )"]),
+    " ".join(["begin:unchecked", *TWELVE, "( )"]),
+]
 RANDOM_RUNS = 300
+# The least number of random jobs on which the right list's report is compared with the listing of the job.
+LEAST_RIGHT = 200
 # The greatest number of states of a random exploration.
 STATES = 4000
 
@@ -42,6 +52,8 @@ def cases(suite):
     report_kinds(suite, "commands in two moves", timed)
     between = [report for report in timed if b"-> begins" in report.output]
     suite.report("steps: a plan has a command between its moves", [] if between else ["none has"])
+    for steps in LENGTHS:
+        compare(suite, engine, JOBS / "setting_one.job", "--mesh", "1:0", "--steps", steps, "--any", 1)
     faults = [f"status {report.status}" for report in reports if report.status not in (0, 3)]
     suite.report("steps: each list has a report on each job", faults)
     report_kinds(suite, "random jobs", at_random(suite, engine))
@@ -74,6 +86,7 @@ def at_random(suite, engine):
     """
     reports = []
     numbers = random.Random(1)
+    compared = 0
     for run in range(RANDOM_RUNS):
         job = suite.write(f"random{run}.job", lines(random_job(numbers)))
         words = "--mesh", "1:0", "--states", STATES
@@ -88,6 +101,9 @@ def at_random(suite, engine):
             counted = listing.rows[0].split(" states ")[0].removeprefix("interleavings ")
             last = f"nothing wrong: {counted} interleavings"
             suite.report(f"steps: random job {run}, the right list", [] if right.rows[-1] == last else [right.rows[-1]])
+            compared += 1
+    few = [] if compared >= LEAST_RIGHT else [f"{compared} jobs"]
+    suite.report("steps: the right list on many random jobs", few)
     return reports
 
 
