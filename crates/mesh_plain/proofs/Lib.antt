@@ -5,3 +5,5 @@ mod Serials
 mod Prints
 mod Sameness
 mod Answered
+mod PackedValues
+mod Packs

@@ -11,8 +11,10 @@ mod copies;
 mod faults;
 mod fingerprints;
 mod maps;
+mod packed;
 mod plain;
 mod stored;
 
 pub use faults::PlainFault;
+pub use packed::Packed;
 pub use plain::Plain;
