@@ -26,6 +26,7 @@ from cli import (
     otherwise,
     overlaps,
     pages,
+    plans,
     reasons,
     record,
     replay,
@@ -36,13 +37,15 @@ from cli import (
 from cli.suite import Suite
 
 TOP = pathlib.Path(__file__).resolve().parents[2]
-# In this order: `savings` reads histories that `record` makes. `None`: all cases are in the table.
+# In this order: `plans` runs the engine that `otherwise` makes, and `savings` reads histories that `record` makes.
+# `None`: all cases are in the table.
 TESTED = {
     "replay": replay,
     "threads": threads,
     "draw": draw,
     "explore": explore,
     "otherwise": otherwise,
+    "plans": plans,
     "live": live,
     "check": check,
     "overlaps": overlaps,

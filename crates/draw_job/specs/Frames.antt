@@ -12,6 +12,7 @@ use Rattle.draw_picture.specs.declared.frame.Counts.{Counts}
 use Rattle.draw_picture.specs.declared.frame.Frame.{Frame}
 use Rattle.draw_picture.specs.declared.frame.Home.{Home}
 use Rattle.draw_picture.specs.declared.frame.Member.{Member}
+use Rattle.draw_picture.specs.declared.frame.MeshProgress.TheVariants.{Steps}
 use Rattle.draw_picture.specs.declared.frame.Object.{Object}
 use Rattle.draw_picture.specs.declared.frame.RunningMesh.{RunningMesh}
 
@@ -63,7 +64,7 @@ home_row h n i =
 
 -- a running mesh, from its record in the table
 abbrev pub mesh_row : Mesh → RunningMesh
-mesh_row mesh = record { class = mesh.class; source = mesh.source; destination = mesh.destination; progress = stored_progress mesh.progress }
+mesh_row mesh = record { class = mesh.class; source = mesh.source; destination = mesh.destination; progress = Steps (stored_progress mesh.progress) }
 
 -- the page counts of a heap: mapped, taken and saved
 abbrev pub counts_row : Report → Counts
@@ -111,22 +112,26 @@ homes_of_group h n = listing (class_in h n) (homes_of_class h n)
 abbrev pub meshes_of : Heap → List RunningMesh
 meshes_of h = below 10 (λ place. listed (option_map mesh_row (slice_get (table_of h).meshes place)))
 
--- the members, mappings, objects and physical pages of group `n` were added to a frame. Meshes and counts are unchanged
+-- the members, mappings, objects and physical pages of group `n` were added to a frame. All else is unchanged
 pub record AddsGroup (h : Heap) (n : ℕ) (old new : Frame) : Type 0 where
   pub members : new.members.items ≡ old.members.items ++ members_of_group h n
   pub leads : new.leads.items ≡ old.leads.items ++ leads_of_group h n
   pub objects : new.objects.items ≡ old.objects.items ++ objects_of_group h n
   pub homes : new.homes.items ≡ old.homes.items ++ homes_of_group h n
   pub meshes : new.meshes.items ≡ old.meshes.items
+  pub hidden : new.hidden.items ≡ old.hidden.items
+  pub mark : new.mark ≡ old.mark
   pub counts : new.counts ≡ old.counts
 
--- a frame shows the groups with numbers below `n`, all running meshes, and the counts
+-- a frame shows the groups with numbers below `n`, all running meshes, and the counts. Nothing is hidden or wrong
 pub record ShowsBelow (h : Heap) (n : ℕ) (f : Frame) : Type 0 where
   pub members : f.members.items ≡ below n (members_of_group h)
   pub leads : f.leads.items ≡ below n (leads_of_group h)
   pub objects : f.objects.items ≡ below n (objects_of_group h)
   pub homes : f.homes.items ≡ below n (homes_of_group h)
   pub meshes : f.meshes.items ≡ meshes_of h
+  pub hidden : f.hidden.items ≡ []
+  pub mark : f.mark ≡ None
   pub counts : f.counts ≡ counts_row (report_of (length (arena_of h)) (table_of h))
 
 -- a frame shows the whole heap: all groups have numbers below the lowest virtual page that was never used

@@ -5,7 +5,7 @@ ghost use Rattle.model_heap.specs.Table.{report_of};
 ghost use Rattle.mesh_steps.specs.Heap.{arena_of, table_of};
 ghost use Rattle.draw_job.specs.Frames.{AddsGroup, IsFrame, counts_row, first_in, home_row, homes_of_class, leads_of_class, leads_of_member, listed, listing, member_row, members_of_class, mesh_row, meshes_of, object_row, objects_of_class, objects_of_member};
 
-use draw_picture::{Counts, Frame, Home, Mapping, Member, Object, RunningMesh};
+use draw_picture::{Counts, Frame, Home, Mapping, Member, MeshProgress, Object, RunningMesh};
 use mesh_class::Class;
 use mesh_steps::Heap;
 use std::alloc::{AllocError, Global};
@@ -26,6 +26,8 @@ pub fn frame_of(alloc: Global, heap: &Heap) -> Result<Frame, AllocError>
         objects: Vec::new(alloc),
         homes: Vec::new(alloc),
         meshes: meshes_of(alloc, heap)?,
+        hidden: Vec::new(alloc),
+        mark: None,
         counts: counts_of(heap),
     };
     for group in 0..heap.next_page() {
@@ -201,7 +203,7 @@ fn mesh_at(heap: &Heap, place: usize) -> Option<RunningMesh>
         class: mesh.class(),
         source: mesh.source(),
         destination: mesh.destination(),
-        progress: mesh.progress(),
+        progress: MeshProgress::Steps(mesh.progress()),
     })
 }
 

@@ -3,6 +3,8 @@ use Rattle.std.specs.Prelude.{ℕ, ◌-◌, Bool, min, nat_eq}
 use Rattle.draw_picture.specs.Numbers.{counted}
 use Rattle.draw_picture.specs.declared.frame.Frame.{Frame}
 use Rattle.draw_picture.specs.declared.frame.Member.{Member}
+use Rattle.draw_picture.specs.declared.frame.MeshProgress.{MeshProgress}
+use Rattle.draw_picture.specs.declared.frame.MeshProgress.TheVariants.{Steps, Moves}
 use Rattle.draw_picture.specs.declared.frame.RunningMesh.{RunningMesh}
 use Rattle.mesh_running.specs.StepOrders.{order_with, steps_before}
 use Rattle.mesh_running.specs.declared.progress.Progress.{Progress}
@@ -27,6 +29,11 @@ abbrev pub copied_after : StepOrder → Progress → ℕ
 copied_after order (Made made) = min (made - steps_before order Copy) order.slots
 copied_after order (Unwinding all undone) = 0
 
+-- the same, for a mesh by any list of steps
+abbrev pub copied_by : StepOrder → MeshProgress → ℕ
+copied_by order (Steps progress) = copied_after order progress
+copied_by order (Moves made copied) = copied
+
 -- the number of slots of its source that a mesh has copied
 abbrev pub copied_slots : Frame → RunningMesh → ℕ
-copied_slots frame mesh = copied_after (order_in frame mesh) mesh.progress
+copied_slots frame mesh = copied_by (order_in frame mesh) mesh.progress

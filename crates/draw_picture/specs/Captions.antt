@@ -30,7 +30,8 @@ is_of_mesher answer =
 -- the style rule of an answer
 abbrev pub tone_of : List ℕ → List ℕ
 tone_of answer =
-    if begins answer (codes "blocked") then codes "pb" else if is_refusal answer then codes "pr" else if is_of_mesher answer then codes "pm" else codes "pd"
+    if begins answer (codes "blocked") then codes "pb" else if is_refusal answer || begins answer (codes "wrong") then codes "pr"
+    else if is_of_mesher answer then codes "pm" else codes "pd"
 
 -- the words of a caption, with the number of its lines if there are several
 abbrev pub told : Caption → List ℕ

@@ -4,6 +4,8 @@ use Rattle.draw_picture.specs.Alike.{order_in}
 use Rattle.draw_picture.specs.Lettering.{beginning, centred, label_text}
 use Rattle.draw_picture.specs.Numbers.{plus, share, times}
 use Rattle.draw_picture.specs.declared.frame.Frame.{Frame}
+use Rattle.draw_picture.specs.declared.frame.MeshProgress.{MeshProgress}
+use Rattle.draw_picture.specs.declared.frame.MeshProgress.TheVariants.{Steps, Moves}
 use Rattle.draw_picture.specs.declared.frame.RunningMesh.{RunningMesh}
 use Rattle.draw_picture.specs.declared.lettering.Face.TheVariants.{Plain, Strong}
 use Rattle.draw_svg.specs.Shapes.{group_end, group_text, plain, rect_text}
@@ -58,10 +60,19 @@ unwinding_words pages = if nat_eq pages 1 then codes "cancelled: # page to unpro
 unfoldable pub unwinding_text : ℕ → List ℕ
 unwinding_text pages = label_text (beginning Strong (codes "red") 0 280) (filled (unwinding_words pages) (pages ∷ []))
 
+-- the progress of a mesh's steps
+unfoldable pub steps_text : Frame → ℕ → RunningMesh → Progress → List ℕ
+steps_text frame card mesh (Made made) = bar_text (order_in frame mesh) made ((card - 240) / 5)
+steps_text frame card mesh (Unwinding all undone) = unwinding_text (all - undone)
+
+-- the number of moves that a mesh by another list of steps has made
+unfoldable pub moves_text : ℕ → List ℕ
+moves_text made = label_text (beginning Plain (codes "ink") 0 280) (filled (codes "moves made: #") (made ∷ []))
+
 -- the progress of a mesh
-unfoldable pub progress_text : Frame → ℕ → RunningMesh → Progress → List ℕ
-progress_text frame card mesh (Made made) = bar_text (order_in frame mesh) made ((card - 240) / 5)
-progress_text frame card mesh (Unwinding all undone) = unwinding_text (all - undone)
+unfoldable pub progress_text : Frame → ℕ → RunningMesh → MeshProgress → List ℕ
+progress_text frame card mesh (Steps progress) = steps_text frame card mesh progress
+progress_text frame card mesh (Moves made copied) = moves_text made
 
 -- the bar of a running mesh: its two groups, and its progress
 unfoldable pub mesh_text : Frame → ℕ → ℕ → RunningMesh → List ℕ

@@ -1,6 +1,6 @@
 -- The drawing of the virtual and the physical pages of a frame.
-use Rattle.std.specs.Prelude.{ℕ, ◌-◌, ◌/◌, ◌%◌, ◌^◌, ◌||◌, ◌&&◌, ◌++◌, ◌∷◌, [], Bool, false, not, List, Option, None, Some, codes, find, if◌then◌else◌, nat_eq, nat_le}
-use Rattle.std.specs.List.{flat_map}
+use Rattle.std.specs.Prelude.{ℕ, ◌-◌, ◌/◌, ◌%◌, ◌^◌, ◌||◌, ◌&&◌, ◌++◌, ◌∷◌, [], Bool, false, not, List, Option, None, Some, codes, find, if◌then◌else◌, length, nat_eq, nat_le}
+use Rattle.std.specs.List.{flat_map, list_any}
 use Rattle.std.specs.Str.{bytes_eq}
 use Rattle.draw_picture.specs.Alike.{copied_slots}
 use Rattle.draw_picture.specs.Arrows.{arrows_text}
@@ -12,6 +12,8 @@ use Rattle.draw_picture.specs.Parts.{is_read_only, part_of, state_in}
 use Rattle.draw_picture.specs.declared.frame.Counts.{Counts}
 use Rattle.draw_picture.specs.declared.frame.Frame.{Frame}
 use Rattle.draw_picture.specs.declared.frame.Home.{Home}
+use Rattle.draw_picture.specs.declared.frame.Mark.{Mark}
+use Rattle.draw_picture.specs.declared.frame.Mark.TheVariants.{Virtual, Physical}
 use Rattle.draw_picture.specs.declared.frame.Member.{Member}
 use Rattle.draw_picture.specs.declared.frame.Object.{Object}
 use Rattle.draw_picture.specs.declared.frame.RunningMesh.{RunningMesh}
@@ -84,11 +86,39 @@ object_text span place page object = if nat_eq object.member span.first then lis
 unfoldable pub objects_text : Frame → Span → ℕ → ℕ → List ℕ
 objects_text frame span place page = flat_map (object_text span place page) frame.objects.items
 
--- the number of a page below it, and a mark if the page is read-only
-unfoldable pub labels_text : ℕ → Bool → ℕ → List ℕ
-labels_text page read_only width =
-    label_text (limited (beginning Plain (codes "soft") 20 620) width) (filled (codes "#") (page ∷ []))
-    ++ (if read_only then label_text (limited (beginning Strong (codes "amber") 20 760) width) (filled (codes "read-only") []) else [])
+-- whether loads of a virtual page are blocked
+abbrev pub is_hidden : Frame → ℕ → Bool
+is_hidden frame page = list_any (λ hidden. nat_eq hidden page) frame.hidden.items
+
+-- the words for the protection of a virtual page
+abbrev pub protection_words : Frame → ℕ → List ℕ
+protection_words frame page = if is_read_only frame page then (if is_hidden frame page then codes "hidden" else codes "read-only") else []
+
+-- the words for the protection of a page, if it has one
+unfoldable pub protection_text : List ℕ → ℕ → List ℕ
+protection_text words width =
+    if nat_eq (length words) 0 then [] else label_text (limited (beginning Strong (codes "amber") 20 760) width) words
+
+-- the number of a page below it, and the words for its protection if it has one
+unfoldable pub labels_text : ℕ → List ℕ → ℕ → List ℕ
+labels_text page words width =
+    label_text (limited (beginning Plain (codes "soft") 20 620) width) (filled (codes "#") (page ∷ [])) ++ protection_text words width
+
+-- whether something is wrong on a virtual page
+abbrev pub marks_virtual : Option Mark → ℕ → Bool
+marks_virtual (Some (Virtual marked)) page = nat_eq marked page
+marks_virtual mark page = false
+
+-- whether something is wrong on a physical page
+abbrev pub marks_physical : Option Mark → ℕ → Bool
+marks_physical (Some (Physical marked)) page = nat_eq marked page
+marks_physical mark page = false
+
+-- the mark of a page on which something is wrong
+unfoldable pub mark_text : Bool → ℕ → List ℕ
+mark_text marked width =
+    if marked then rect_text (plain (codes "pr")) (record { x = 0; y = 420; w = width; h = 60 }) 0
+    ++ label_text (ending Strong (codes "red") (width - 20) 620) (filled (codes "wrong") []) else []
 
 -- whether two answers aren't the same
 abbrev pub differ : Bool → Bool → Bool
@@ -102,8 +132,8 @@ change_text changed width = if changed then rect_text (plain (codes "new")) (pag
 abbrev pub virtual_at : Layout → Frame → Frame → Span → ℕ → ℕ → List ℕ
 virtual_at layout now before span page place =
     group_text (page_left layout span place) 540 ++ rect_text (page_style (is_read_only now page)) (page_area layout.page) 30
-    ++ grid_text span.class place layout.page ++ objects_text now span place layout.page ++ labels_text page (is_read_only now page) layout.page
-    ++ change_text (differ (is_read_only now page) (is_read_only before page)) layout.page ++ group_end
+    ++ grid_text span.class place layout.page ++ objects_text now span place layout.page ++ labels_text page (protection_words now page) layout.page
+    ++ change_text (differ (is_read_only now page) (is_read_only before page)) layout.page ++ mark_text (marks_virtual now.mark page) layout.page ++ group_end
 
 unfoldable pub virtual_text : Layout → Frame → Frame → Span → ℕ → List ℕ
 virtual_text layout now before span page = virtual_at layout now before span page (page - span.first)
@@ -167,8 +197,9 @@ contents_text frame width page = filled_or_free frame width (home_of frame page)
 -- a physical page, with a mark if it isn't drawn as in the frame before
 unfoldable pub physical_text : Layout → Frame → Frame → ℕ → List ℕ
 physical_text layout now before page =
-    group_text (physical_left layout page) 1820 ++ contents_text now layout.page page ++ labels_text page false layout.page
-    ++ change_text (not (bytes_eq (contents_text now layout.page page) (contents_text before layout.page page))) layout.page ++ group_end
+    group_text (physical_left layout page) 1820 ++ contents_text now layout.page page ++ labels_text page [] layout.page
+    ++ change_text (not (bytes_eq (contents_text now layout.page page) (contents_text before layout.page page))) layout.page
+    ++ mark_text (marks_physical now.mark page) layout.page ++ group_end
 
 -- what is below the physical pages
 unfoldable pub bottom_text : Layout → Frame → List ℕ

@@ -3,7 +3,7 @@ ghost use Rattle.std.specs.Prelude.{◌≡◌};
 ghost use Rattle.draw_picture.specs.Alike.{copied_slots, members_in, order_in};
 ghost use Rattle.mesh_running.specs.StepOrders.{IsStepOrder};
 
-use crate::frame::{Counts, Frame, RunningMesh};
+use crate::frame::{Counts, Frame, MeshProgress, RunningMesh};
 use crate::numbers::{narrow, plus};
 use mesh_running::{MAX_MEMBERS, Progress, StepOrder};
 use std::alloc::{AllocError, Global};
@@ -16,6 +16,8 @@ pub fn copied(frame: &Frame) -> Result<Frame, AllocError> {
         objects: frame.objects.clone()?,
         homes: frame.homes.clone()?,
         meshes: frame.meshes.clone()?,
+        hidden: frame.hidden.clone()?,
+        mark: frame.mark,
         counts: frame.counts,
     })
 }
@@ -28,6 +30,8 @@ pub fn empty_frame(alloc: Global) -> Frame {
         objects: Vec::new(alloc),
         homes: Vec::new(alloc),
         meshes: Vec::new(alloc),
+        hidden: Vec::new(alloc),
+        mark: None,
         counts: Counts::default(),
     }
 }
@@ -37,13 +41,15 @@ pub fn shows_nothing(frame: &Frame) -> bool {
     frame.members.is_empty() && frame.meshes.is_empty()
 }
 
-/// Whether two frames have the same members, mappings, objects and physical pages, and meshes that look alike. The page
-/// counts are not compared.
+/// Whether two frames have the same members, mappings, objects, physical pages and marks, and meshes that look alike.
+/// The page counts are not compared.
 pub fn are_alike(one: &Frame, other: &Frame) -> bool {
     one.members.as_slice() == other.members.as_slice()
         && one.leads.as_slice() == other.leads.as_slice()
         && one.objects.as_slice() == other.objects.as_slice()
         && one.homes.as_slice() == other.homes.as_slice()
+        && one.hidden.as_slice() == other.hidden.as_slice()
+        && one.mark == other.mark
         && have_alike_meshes(one, other)
 }
 
@@ -92,14 +98,15 @@ pub fn copied_slots(frame: &Frame, mesh: &RunningMesh) -> u32
     ensures { result ≡ copied_slots frame.now mesh.now }
 {
     match mesh.progress {
-        Progress::Unwinding(_, _) => 0,
-        Progress::Made(made) => order_of(frame, mesh).copied_after(made),
+        MeshProgress::Steps(Progress::Unwinding(_, _)) => 0,
+        MeshProgress::Steps(Progress::Made(made)) => order_of(frame, mesh).copied_after(made),
+        MeshProgress::Moves(_, copied) => copied,
     }
 }
 
 /// Returns how many objects of its source a mesh has copied, or `None` if the mesh was cancelled.
 fn copied_objects(frame: &Frame, mesh: &RunningMesh) -> Option<u32> {
-    if let Progress::Unwinding(_, _) = mesh.progress {
+    if let MeshProgress::Steps(Progress::Unwinding(_, _)) = mesh.progress {
         return None;
     }
     let slots = copied_slots(frame, mesh);

@@ -40,6 +40,25 @@ pub struct Home {
     pub taken: bool,
 }
 
+/// How far a running mesh is.
+#[derive(Clone, Copy, PartialEq, Eq)]
+pub enum MeshProgress {
+    /// The progress of a mesh that makes the steps of the heap's own meshes.
+    Steps(Progress),
+    /// The number of moves that a mesh by another list of steps has made, and the number of slots, from the first one
+    /// on, whose objects it has copied.
+    Moves(u32, u32),
+}
+
+/// A page on which something is wrong.
+#[derive(Clone, Copy, PartialEq, Eq)]
+pub enum Mark {
+    /// A virtual page.
+    Virtual(u32),
+    /// A physical page.
+    Physical(u32),
+}
+
 /// A running mesh.
 #[derive(Clone, Copy, PartialEq, Eq)]
 pub struct RunningMesh {
@@ -50,7 +69,7 @@ pub struct RunningMesh {
     /// The number of the destination.
     pub destination: u32,
     /// The progress of the mesh.
-    pub progress: Progress,
+    pub progress: MeshProgress,
 }
 
 /// The page counts of a heap.
@@ -76,11 +95,15 @@ pub struct Frame {
     pub homes: Vec<Home>,
     /// The running meshes, in the order in which they began.
     pub meshes: Vec<RunningMesh>,
+    /// The read-only virtual pages of which loads are blocked, too.
+    pub hidden: Vec<u32>,
+    /// A page on which something is wrong.
+    pub mark: Option<Mark>,
     /// The page counts of the heap.
     pub counts: Counts,
 }
 
 #[rattlefmt::skip]
 impl Drop for Frame {
-    fn drop(self) { let Frame { members: _, leads: _, objects: _, homes: _, meshes: _, counts: _ } = self; }
+    fn drop(self) { let Frame { members: _, leads: _, objects: _, homes: _, meshes: _, hidden: _, mark: _, counts: _ } = self; }
 }

@@ -33,7 +33,7 @@ mod pills;
 mod style;
 
 pub use draw_svg::Text;
-pub use frame::{Counts, Frame, Home, Mapping, Member, Object, RunningMesh};
+pub use frame::{Counts, Frame, Home, Mapping, Mark, Member, MeshProgress, Object, RunningMesh};
 pub use gathering::Line;
 pub use measure::Measure;
 pub use notes::title_of;

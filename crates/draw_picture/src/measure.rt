@@ -122,13 +122,17 @@ fn widest_of(gathering: &Gathering) -> Result<u32, AllocError> {
     Ok(widest)
 }
 
-/// Returns the number of physical pages that must be drawn for a frame: all pages up to the last taken page.
+/// Returns the number of physical pages that must be drawn for a frame: all pages up to the last one that is taken, or
+/// to which a virtual page is mapped.
 fn physical_of(frame: &Frame) -> u32 {
     let mut count = 0u32;
     for home in frame.homes.as_slice() {
         if home.taken {
             count = count.max(home.page.saturating_add(1));
         }
+    }
+    for lead in frame.leads.as_slice() {
+        count = count.max(lead.physical_page.saturating_add(1));
     }
     count
 }

@@ -1,10 +1,10 @@
 //! Drawing the bars of running meshes.
 ghost use Rattle.std.specs.Prelude.{◌≡◌, ◌++◌, OnOk};
-ghost use Rattle.draw_picture.specs.Meshes.{bar_text, kind_part, kind_words, made_of, mesh_text, part_area, progress_text, unwinding_text, unwinding_words};
+ghost use Rattle.draw_picture.specs.Meshes.{bar_text, kind_part, kind_words, made_of, mesh_text, moves_text, part_area, progress_text, steps_text, unwinding_text, unwinding_words};
 ghost use Rattle.mesh_running.specs.StepOrders.{IsStepOrder, steps_before};
 
 use crate::alike::order_of;
-use crate::frame::{Frame, RunningMesh};
+use crate::frame::{Frame, MeshProgress, RunningMesh};
 use crate::layout::PAD;
 use crate::lettering::{Face, Label};
 use crate::numbers::{plus, share, times};
@@ -38,7 +38,7 @@ pub(crate) fn write_mesh(
     end_group(text)
 }
 
-/// Appends the progress of a mesh: a part for each kind of step, or what a cancelled mesh has to do.
+/// Appends the progress of a mesh: that of its steps, or the number of its moves.
 #[tactic(auto, unfolding(crate::specs::Meshes::progress_text))]
 fn write_progress(
     text: &mut Vec<u8>,
@@ -49,12 +49,37 @@ fn write_progress(
     ensures { OnOk result (text.new.items ≡ text.old.items ++ progress_text frame.now card mesh.now mesh.now.progress) }
 {
     match mesh.progress {
+        MeshProgress::Steps(progress) => write_steps(text, frame, card, mesh, progress),
+        MeshProgress::Moves(made, _) => write_moves(text, made),
+    }
+}
+
+/// Appends the progress of a mesh's steps: a part for each kind of step, or what a cancelled mesh has to do.
+#[tactic(auto, unfolding(crate::specs::Meshes::steps_text))]
+fn write_steps(
+    text: &mut Vec<u8>,
+    frame: &Frame,
+    card: u32,
+    mesh: &RunningMesh,
+    progress: Progress,
+) -> Result<(), AllocError>
+    ensures { OnOk result (text.new.items ≡ text.old.items ++ steps_text frame.now card mesh.now progress) }
+{
+    match progress {
         Progress::Made(made) => {
             let width = card.saturating_sub(2 * PAD) / 5;
             write_bar(text, order_of(frame, mesh), made, width)
         }
         Progress::Unwinding(all, undone) => write_unwinding(text, all.saturating_sub(undone)),
     }
+}
+
+/// Appends the number of moves that a mesh by another list of steps has made.
+#[tactic(auto, unfolding(crate::specs::Meshes::moves_text))]
+fn write_moves(text: &mut Vec<u8>, made: u32) -> Result<(), AllocError>
+    ensures { OnOk result (text.new.items ≡ text.old.items ++ moves_text made) }
+{
+    Label::start(Face::Plain, "ink", 0, 280).say(text, "moves made: #", &[made])
 }
 
 /// Appends what a cancelled mesh has to do: it must still unprotect this number of pages.

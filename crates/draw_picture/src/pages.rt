@@ -2,12 +2,12 @@
 ghost use Rattle.std.specs.Prelude.{◌≡◌, ◌++◌, IfOk, OnOk};
 ghost use Rattle.std.specs.List.{flat_map};
 ghost use Rattle.draw_picture.specs.Objects.{below, listing, part_text};
-ghost use Rattle.draw_picture.specs.Pages.{all_mapped_text, bottom_text, bracket_text, change_text, contents_text, copies_text, counts_text, empty_text, free_text, heading_text, held_by, held_object_text, held_text, home_of, labels_text, lower_text, mapped_text, member_at, member_objects_text, member_text, object_text, objects_text, page_area, page_style, pages_name, pages_text, physical_text, span_text, spans_text, taken_text, upper_text, virtual_text};
+ghost use Rattle.draw_picture.specs.Pages.{all_mapped_text, bottom_text, bracket_text, change_text, contents_text, copies_text, counts_text, empty_text, free_text, heading_text, held_by, held_object_text, held_text, home_of, is_hidden, labels_text, lower_text, mapped_text, mark_text, marks_physical, marks_virtual, member_at, member_objects_text, member_text, object_text, objects_text, page_area, page_style, pages_name, pages_text, physical_text, protection_text, protection_words, span_text, spans_text, taken_text, upper_text, virtual_text};
 ghost use Rattle.draw_svg.specs.Shapes.{style_of};
 
 use crate::alike::copied_slots;
 use crate::arrows::write_arrows;
-use crate::frame::{Counts, Frame, Home, Mapping, Member, Object, RunningMesh};
+use crate::frame::{Counts, Frame, Home, Mapping, Mark, Member, Object, RunningMesh};
 use crate::layout::{Layout, PAD, PAGE_HEIGHT, Span};
 use crate::lettering::{Face, Label};
 use crate::numbers::plus;
@@ -253,13 +253,71 @@ fn write_virtual(
     )?;
     write_grid(text, span.class, place, scene.layout.page)?;
     write_objects(text, scene.now, span, place, scene.layout.page)?;
-    write_labels(text, page, read_only, scene.layout.page)?;
+    write_labels(
+        text,
+        page,
+        protection_words(scene.now, page),
+        scene.layout.page,
+    )?;
     write_change(
         text,
         read_only != is_read_only(scene.before, page),
         scene.layout.page,
     )?;
+    write_mark(text, marks_virtual(scene.now, page), scene.layout.page)?;
     end_group(text)
+}
+
+/// Returns the words for the protection of a virtual page, or none if the page has none.
+fn protection_words(frame: &Frame, page: u32) -> &'static str
+    ensures { result.now ≡ protection_words frame.now page }
+{
+    if !is_read_only(frame, page) {
+        ""
+    } else if is_hidden(frame, page) {
+        "hidden"
+    } else {
+        "read-only"
+    }
+}
+
+/// Whether loads of a virtual page are blocked.
+fn is_hidden(frame: &Frame, page: u32) -> bool
+    ensures { result ≡ is_hidden frame.now page }
+{
+    frame.hidden.iter().any(|hidden| *hidden == page)
+}
+
+/// Whether something is wrong on a virtual page.
+fn marks_virtual(frame: &Frame, page: u32) -> bool
+    ensures { result ≡ marks_virtual frame.now.mark page }
+{
+    match frame.mark {
+        Some(Mark::Virtual(marked)) => marked == page,
+        _ => false,
+    }
+}
+
+/// Whether something is wrong on a physical page.
+fn marks_physical(frame: &Frame, page: u32) -> bool
+    ensures { result ≡ marks_physical frame.now.mark page }
+{
+    match frame.mark {
+        Some(Mark::Physical(marked)) => marked == page,
+        _ => false,
+    }
+}
+
+/// Appends the mark of a page on which something is wrong, if this is one.
+#[tactic(auto, unfolding(crate::specs::Pages::mark_text))]
+fn write_mark(text: &mut Vec<u8>, marked: bool, width: u32) -> Result<(), AllocError>
+    ensures { OnOk result (text.new.items ≡ text.old.items ++ mark_text marked width) }
+{
+    if !marked {
+        return Ok(());
+    }
+    write_rect(text, &Look::of("pr"), &Area::at(0, 420, width, 60), 0)?;
+    Label::end(Face::Strong, "red", width.saturating_sub(20), 620).say(text, "wrong", &[])
 }
 
 /// Returns the style of a virtual page.
@@ -326,26 +384,28 @@ fn write_if(text: &mut Vec<u8>, part: Option<Part>, page: u32) -> Result<(), All
     }
 }
 
-/// Appends the number of a page below it, and a mark if the page is read-only.
+/// Appends the number of a page below it, and the words for its protection if it has one.
 #[tactic(auto, unfolding(crate::specs::Pages::labels_text))]
-fn write_labels(
-    text: &mut Vec<u8>,
-    page: u32,
-    read_only: bool,
-    width: u32,
-) -> Result<(), AllocError>
-    ensures { OnOk result (text.new.items ≡ text.old.items ++ labels_text page read_only width) }
+fn write_labels(text: &mut Vec<u8>, page: u32, words: &str, width: u32) -> Result<(), AllocError>
+    ensures { OnOk result (text.new.items ≡ text.old.items ++ labels_text page words.now width) }
 {
     Label::start(Face::Plain, "soft", 20, 620)
         .within(width)
         .say(text, "#", &[page])?;
-    if read_only {
-        Label::start(Face::Strong, "amber", 20, 760)
-            .within(width)
-            .say(text, "read-only", &[])
-    } else {
-        Ok(())
+    write_protection(text, words, width)
+}
+
+/// Appends the words for the protection of a page, if it has one.
+#[tactic(auto, unfolding(crate::specs::Pages::protection_text))]
+fn write_protection(text: &mut Vec<u8>, words: &str, width: u32) -> Result<(), AllocError>
+    ensures { OnOk result (text.new.items ≡ text.old.items ++ protection_text words.now width) }
+{
+    if words.len() == 0 {
+        return Ok(());
     }
+    Label::start(Face::Strong, "amber", 20, 760)
+        .within(width)
+        .write(text, words.as_bytes())
 }
 
 /// Appends the mark of a page that has changed, if it has.
@@ -370,8 +430,9 @@ fn write_physical(text: &mut Vec<u8>, scene: Scene<'_>, page: u32) -> Result<(),
     let before = contents(*text.allocator(), scene.before, page, width)?;
     write_group(text, scene.layout.physical_left(page), PHYSICAL)?;
     text.extend_from_slice(now.as_slice())?;
-    write_labels(text, page, false, width)?;
+    write_labels(text, page, "", width)?;
     write_change(text, now.as_slice() != before.as_slice(), width)?;
+    write_mark(text, marks_physical(scene.now, page), width)?;
     end_group(text)
 }
 

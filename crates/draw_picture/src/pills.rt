@@ -10,13 +10,13 @@ use draw_svg::{Area, Look, end_group, words_of, write_group, write_rect};
 use std::alloc::AllocError;
 
 /// Returns the style rule of an answer: of a line that was blocked, of a line that was not done because of a refusal,
-/// an ended script or a full journal, of something that the mesher did, or of a line that was done.
+/// an ended script or a full journal or that is wrong, of something that the mesher did, or of a line that was done.
 fn tone_of(answer: &[u8]) -> &'static str
     ensures { result.now ≡ tone_of answer.now }
 {
     if answer.starts_with(b"blocked") {
         "pb"
-    } else if is_refusal(answer) {
+    } else if is_refusal(answer) || answer.starts_with(b"wrong") {
         "pr"
     } else if is_of_mesher(answer) {
         "pm"

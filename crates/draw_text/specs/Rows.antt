@@ -4,6 +4,8 @@ use Rattle.model_jobs.specs.Texts.{ended, number_field}
 use Rattle.draw_picture.specs.declared.frame.Counts.{Counts}
 use Rattle.draw_picture.specs.declared.frame.Home.{Home}
 use Rattle.draw_picture.specs.declared.frame.Member.{Member}
+use Rattle.draw_picture.specs.declared.frame.MeshProgress.{MeshProgress}
+use Rattle.draw_picture.specs.declared.frame.MeshProgress.TheVariants.{Steps, Moves}
 use Rattle.draw_picture.specs.declared.frame.Object.{Object}
 use Rattle.draw_picture.specs.declared.frame.RunningMesh.{RunningMesh}
 use Rattle.mesh_pagemap.specs.declared.mapping.Mapping.{Mapping}
@@ -35,10 +37,15 @@ abbrev pub progress_text : Progress → List ℕ
 progress_text (Made d) = codes " steps" ++ number_field d
 progress_text (Unwinding q u) = codes " cancelled protected" ++ number_field q ++ codes " unprotected" ++ number_field u
 
+-- the progress of a mesh by any list of steps
+abbrev pub mesh_progress_text : MeshProgress → List ℕ
+mesh_progress_text (Steps progress) = progress_text progress
+mesh_progress_text (Moves made copied) = codes " moves" ++ number_field made
+
 -- a running mesh: its groups, its class, and its progress
 abbrev pub mesh_line : RunningMesh → List ℕ
 mesh_line m =
-    ended (codes "  mesh" ++ number_field m.source ++ codes ":" ++ decimal m.destination ++ codes " class" ++ number_field m.class ++ progress_text m.progress)
+    ended (codes "  mesh" ++ number_field m.source ++ codes ":" ++ decimal m.destination ++ codes " class" ++ number_field m.class ++ mesh_progress_text m.progress)
 
 -- the counts of pages
 abbrev pub counts_line : Counts → List ℕ

@@ -1,8 +1,8 @@
 //! The lines of a frame's rows.
 ghost use Rattle.std.specs.Prelude.{◌≡◌, ◌++◌, codes, decimal, OnOk};
-ghost use Rattle.draw_text.specs.Rows.{counts_line, home_line, lead_line, member_line, mesh_line, object_line, progress_text};
+ghost use Rattle.draw_text.specs.Rows.{counts_line, home_line, lead_line, member_line, mesh_line, mesh_progress_text, object_line, progress_text};
 
-use draw_picture::{Counts, Home, Mapping, Member, Object, RunningMesh};
+use draw_picture::{Counts, Home, Mapping, Member, MeshProgress, Object, RunningMesh};
 use mesh_running::Progress;
 use std::alloc::AllocError;
 use text_words::add_decimal;
@@ -68,8 +68,18 @@ pub(crate) fn add_mesh(text: &mut Vec<u8>, mesh: RunningMesh) -> Result<(), Allo
     Ok(())
 }
 
+/// Appends the progress of a mesh: that of its steps, or ` moves M`.
+fn add_progress(text: &mut Vec<u8>, progress: MeshProgress) -> Result<(), AllocError>
+    ensures { OnOk result (text.new.items ≡ text.old.items ++ mesh_progress_text progress) }
+{
+    match progress {
+        MeshProgress::Steps(progress) => add_steps(text, progress),
+        MeshProgress::Moves(made, _) => add_count(text, b" moves ", made),
+    }
+}
+
 /// Appends ` steps D`, or ` cancelled protected Q unprotected U`.
-fn add_progress(text: &mut Vec<u8>, progress: Progress) -> Result<(), AllocError>
+fn add_steps(text: &mut Vec<u8>, progress: Progress) -> Result<(), AllocError>
     ensures { OnOk result (text.new.items ≡ text.old.items ++ progress_text progress) }
 {
     match progress {

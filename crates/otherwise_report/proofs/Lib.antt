@@ -8,6 +8,7 @@ pub mod Drops
 pub mod NearestStates
 pub mod NearestStuck
 pub mod PlayedLines
+pub mod Points
 pub mod ReportMeanings
 pub mod Sections
 pub mod ToldRuns

@@ -1,7 +1,7 @@
 -- The errors of an exploration with a list of steps, converted from the errors of its parts.
 use Rattle.std.specs.Prelude.{◌≡◌, Result, Err}
 use Rattle.otherwise_report.specs.declared.errors.StepsError.{StepsError}
-use Rattle.otherwise_report.specs.declared.errors.StepsError.TheVariants.{Replay, TooManyStates, Steps, PlanLine}
+use Rattle.otherwise_report.specs.declared.errors.StepsError.TheVariants.{Replay, TooManyStates, Steps, PlanLine, NothingWrong}
 use Rattle.otherwise_report.specs.declared.list_fault.ListFault.{ListFault}
 use Rattle.states_reach.specs.declared.faults.ReachError.{ReachError}
 use Rattle.states_reach.specs.declared.faults.ReachError.TheVariants.{TooMany, Memory as ReachMemory}
@@ -25,3 +25,4 @@ IsUnspelt read (Replay Write) = ⊥
 IsUnspelt read (Replay (Text fault)) = ⊥
 IsUnspelt read TooManyStates = ⊥
 IsUnspelt read (PlanLine line) = ⊥
+IsUnspelt read NothingWrong = ⊥

@@ -1,9 +1,12 @@
 pub mod ClientLaws
+pub mod Captions
 pub mod Clients
 pub mod Ends
 pub mod Errors
 pub mod FaultTexts
+pub mod Findings
 pub mod Nearest
+pub mod Pictures
 pub mod PlanStarts
 pub mod PlanTexts
 pub mod ReportLaws

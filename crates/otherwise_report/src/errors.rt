@@ -26,6 +26,9 @@ pub enum StepsError {
     /// nor a mesh that is made at once.
     #[error("line {0} of the plan")]
     PlanLine(u32),
+    /// A picture is asked for, and nothing is wrong: there is no plan to draw.
+    #[error("nothing is wrong")]
+    NothingWrong,
 }
 
 impl From<AllocError> for StepsError {

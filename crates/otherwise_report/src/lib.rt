@@ -1,15 +1,18 @@
-//! Explores a job whose meshes are made by a given list of steps, and reports what goes wrong, with a shortest plan.
+//! Explores a job whose meshes are made by a list of steps, and reports or draws what goes wrong, with a shortest plan.
 //!
 //! An `AllocError` means that an allocation failed.
 #![tactic(auto)]
 
+mod captions;
 mod client;
 mod ends;
 mod errors;
 mod fault_text;
+mod finding;
 pub mod laws;
 mod list_fault;
 mod nearest;
+mod picture;
 mod plan_text;
 mod report;
 mod run;
@@ -20,4 +23,5 @@ mod whole;
 
 pub use errors::StepsError;
 pub use list_fault::ListFault;
-pub use run::{StepsOptions, explore_steps};
+pub use picture::PictureOptions;
+pub use run::{Form, StepsOptions, explore_steps};

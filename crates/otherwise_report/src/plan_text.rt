@@ -100,7 +100,11 @@ pub(crate) fn add_attempt(
 }
 
 /// Adds who gives the command of a move.
-fn add_asker(text: &mut Vec<u8>, asking: &Asking<'_>, number: usize) -> Result<(), AllocError>
+pub(crate) fn add_asker(
+    text: &mut Vec<u8>,
+    asking: &Asking<'_>,
+    number: usize,
+) -> Result<(), AllocError>
     ensures { OnOk result (text.new.items ≡ text.old.items ++ asker_text (asking_of asking.now) number) }
 {
     match asking {
@@ -113,7 +117,7 @@ fn add_asker(text: &mut Vec<u8>, asking: &Asking<'_>, number: usize) -> Result<(
 }
 
 /// Adds what becomes of a command.
-fn add_tried(text: &mut Vec<u8>, tried: &Tried) -> Result<(), AllocError>
+pub(crate) fn add_tried(text: &mut Vec<u8>, tried: &Tried) -> Result<(), AllocError>
     ensures { OnOk result (text.new.items ≡ text.old.items ++ tried_text tried.now) }
 {
     match tried {
@@ -136,7 +140,7 @@ fn add_tried(text: &mut Vec<u8>, tried: &Tried) -> Result<(), AllocError>
 }
 
 /// Adds the next move of a mesher.
-fn add_mesher(
+pub(crate) fn add_mesher(
     text: &mut Vec<u8>,
     setting: &Setting<'_>,
     at: &StateAt<'_>,

@@ -163,6 +163,53 @@ parts_are_in_order : asked (spoken (codes "draw a.job --from 9 --to 8")) ≡ Non
 unfolding clap_on_literals asked
 parts_are_in_order = refl
 
+-- with a mesh, the shortest plan of an exploration is drawn: that of the heap's own steps and the job's workers, in as
+-- many columns as fit, with at most 100,000 states, or that of a list of steps with a client, in a number of columns
+shortest_plans_are_asked :
+    Asks (codes "draw a.job --mesh 1:0")
+    (explore_of (codes "a.job") (record {
+      meshes = record { source = 1; destination = 0 } ∷ [];
+      cancel = None;
+      states = 100000;
+      told = tells_steps (record { list = None; commands = None; timing = record { loads = Whole; stores = Whole; frees = Whole }; picture = Some 0 });
+      allows_no_mesh = true;
+      is_watched = false;
+    }))
+    × Asks (codes "draw --steps copy --any=2 --mesh 1:0 --load stale --states 9 a.job --columns 64 --mesh=+3:2 --store=split --from 1")
+    (explore_of (codes "a.job") (record {
+      meshes = record { source = 1; destination = 0 } ∷ record { source = 3; destination = 2 } ∷ [];
+      cancel = None;
+      states = 9;
+      told = tells_steps (record { list = Some (codes "copy"); commands = Some 2; timing = record { loads = Stale; stores = Split; frees = Whole }; picture = Some 64 });
+      allows_no_mesh = true;
+      is_watched = false;
+    }))
+unfolding clap_on_literals asked is_taken
+shortest_plans_are_asked = ((refl, refl), (refl, refl))
+
+-- a shortest plan is drawn as a whole and as a picture, its meshes are pairs of groups, and only a client makes
+-- accesses in two moves
+no_other_shortest_plans :
+    (asked (spoken (codes "draw a.job --mesh 1:0 --text")) ≡ None)
+    × (asked (spoken (codes "draw a.job --mesh 1:0 --html")) ≡ None)
+    × (asked (spoken (codes "draw a.job --mesh 1:0 --from 2")) ≡ None)
+    × (asked (spoken (codes "draw a.job --mesh 1:0 --to 9")) ≡ None)
+    × (asked (spoken (codes "draw a.job --mesh 1:0 --mesh 1")) ≡ None)
+    × (asked (spoken (codes "draw a.job --mesh 1:0 --free split")) ≡ None)
+unfolding clap_on_literals asked
+no_other_shortest_plans = (refl, refl, refl, refl, refl, refl)
+
+-- without a mesh there are no steps, no client and no accesses in two moves, and a number of states changes nothing
+plans_have_no_steps :
+    (asked (spoken (codes "draw a.job --steps right")) ≡ None)
+    × (asked (spoken (codes "draw a.job --any 0")) ≡ None)
+    × (asked (spoken (codes "draw a.job --store split")) ≡ None)
+    × (asked (spoken (codes "draw a.job --load stale")) ≡ None)
+    × (asked (spoken (codes "draw a.job --free split")) ≡ None)
+    × (asked (spoken (codes "draw a.job --states 9")) ≡ asked (spoken (codes "draw a.job")))
+unfolding clap_on_literals asked
+plans_have_no_steps = (refl, refl, refl, refl, refl, refl)
+
 -- a session is of the largest sizes; smaller ones may be asked for, and a journal with no room
 sessions_are_asked :
     Asks (codes "live") (live_of (record { pages = 4096; history = 65536; workers = 64 }))
@@ -222,7 +269,7 @@ tellings_are_asked :
       meshes = record { source = 1; destination = 0 } ∷ [];
       cancel = None;
       states = 100000;
-      told = tells_steps (record { list = Some (codes "copy"); commands = Some 2; timing = record { loads = Whole; stores = Whole; frees = Whole } });
+      told = tells_steps (record { list = Some (codes "copy"); commands = Some 2; timing = record { loads = Whole; stores = Whole; frees = Whole }; picture = None });
       allows_no_mesh = false;
       is_watched = false;
     }))
@@ -231,7 +278,7 @@ tellings_are_asked :
       meshes = record { source = 1; destination = 0 } ∷ [];
       cancel = None;
       states = 100000;
-      told = tells_steps (record { list = None; commands = Some 2; timing = record { loads = Stale; stores = Stale; frees = Split } });
+      told = tells_steps (record { list = None; commands = Some 2; timing = record { loads = Stale; stores = Stale; frees = Split }; picture = None });
       allows_no_mesh = false;
       is_watched = false;
     }))

@@ -6,7 +6,7 @@ use Rattle.clap.specs.Words.{AddsArg, AddsSubcommand, App, Rule, app_of, rule_of
 use Rattle.clap.specs.declared.builder.arg.Arg.{Arg}
 use Rattle.clap.specs.declared.builder.command.Command.{Command}
 use Rattle.clap.specs.declared.builder.command.Command.TheViews.{out-Command}
-use Rattle.run_command_line.specs.CommandLine.{check_app, explore_app, judging_app, runs_app}
+use Rattle.run_command_line.specs.CommandLine.{bare_app, check_app, draw_app, explore_app, judging_app, live_app, replay_app, runs_app, threads_app}
 
 -- a simple argument is not global
 local_arg : (a : Arg) → (rule_of a).is_simple ≡ true → a.global ≡ false
@@ -40,6 +40,15 @@ pub with_command : (old sub new : Command) (app below : App) → AddsSubcommand 
     → app_of new ≡ with_subcommand app below.top
 with_command old sub new app below adds old_is is plain =
     adds.shape (local_command sub (ap (λ (x : App). x.top.is_plain) is ∙ plain)) ∙ ap₂ with_subcommand old_is (ap (λ (x : App). x.top) is)
+
+-- a program with the subcommands that run a heap added
+abbrev running : App → App
+running app = with_subcommand (with_subcommand (with_subcommand (with_subcommand app replay_app.top) threads_app.top) draw_app.top) live_app.top
+
+-- the program with the subcommands that run a heap, by what it was without them
+pub runs_of : {E : Type 0} (result : Result Command E) (app : App) → app ≡ bare_app → IfOk result (λ new. app_of new ≡ running app)
+    → IfOk result (λ new. app_of new ≡ runs_app)
+runs_of result app is built = subst (λ (a : App). IfOk result (λ new. app_of new ≡ running a)) is built
 
 -- the program with the subcommands that judge, by what it was without them
 pub judging_of : {E : Type 0} (result : Result Command E) (app : App) → app ≡ runs_app

@@ -6,7 +6,7 @@ use Rattle.clap.specs.Words.{Text, first_of, first_value, matched_of, raw_values
 use Rattle.clap.specs.declared.parser.matches.Found.{Found}
 use Rattle.clap.proofs.WalkLemmas.{first_value-rows, raw_values-rows}
 use Rattle.model_otherwise.specs.declared.timing.Timing.{Timing}
-use Rattle.run_command_line.specs.CommandLine.{ShownAnswer, ToldOf, asks_verdict, few_texts, given_in, listing_told_in, of_given, other_list, shown_given_in, shown_of_text, texts_in, timing_in, told_by, told_in, told_where, told_with}
+use Rattle.run_command_line.specs.CommandLine.{ShownAnswer, Stepped, ToldOf, asks_verdict, by_client, drawn_steps_in, few_texts, given_in, lacks_client, listing_told_in, of_given, other_list, picture_in, shown_given_in, shown_of_text, texts_in, timing_in, told_by, told_in, told_where, told_with}
 use Rattle.run_command_line.specs.Conditions.{ConditionTexts}
 
 -- more than ten
@@ -85,3 +85,27 @@ module _ (found : Found) where
       ∙ ap (option_and_then (told_timed listing commands)) timing_is
       ∙ ap (option_and_then (told_after listing)) commands_are
       ∙ ap (option_and_then told_beside) listing_is
+
+  -- the list of steps, the client and the picture that `draw` is asked for, by the columns, by how many commands a
+  -- client gives, and by how accesses are made
+  abbrev stepped_timed : ℕ → Option ℕ → Timing → Option Stepped
+  stepped_timed columns commands timing =
+      by_client (record { list = other_list (first_of (codes "steps") (rows_of found)); commands = commands; timing = timing; picture = Some columns })
+
+  abbrev stepped_after : ℕ → Option ℕ → Option Stepped
+  stepped_after columns commands = option_and_then (stepped_timed columns commands) (timing_in (rows_of found))
+
+  abbrev stepped_beside : ℕ → Option Stepped
+  stepped_beside columns = option_and_then (stepped_after columns) (given_in (codes "any") 0 1000 (rows_of found))
+
+  pub stepped_is : (columns : ℕ) (commands : Option ℕ) (timing : Timing) (steps list : Option Text) → Some columns ≡ picture_in (rows_of found)
+      → Some commands ≡ given_in (codes "any") 0 1000 (rows_of found) → Some timing ≡ timing_in (rows_of found) → false ≡ lacks_client commands timing
+      → steps ≡ first_value found (codes "steps") → list ≡ other_list steps
+      → Some (record { list = list; commands = commands; timing = timing; picture = Some columns }) ≡ drawn_steps_in (rows_of found)
+  stepped_is columns commands timing steps list columns_are commands_are timing_is lacks_none steps_are list_is =
+      ap (λ (lacks : Bool). if lacks then None else Some (record { list = list; commands = commands; timing = timing; picture = Some columns })) lacks_none
+      ∙ ap (λ (l : Option Text). by_client (record { list = l; commands = commands; timing = timing; picture = Some columns }))
+      (list_is ∙ ap other_list (steps_are ∙ first_value-rows found (codes "steps")))
+      ∙ ap (option_and_then (stepped_timed columns commands)) timing_is
+      ∙ ap (option_and_then (stepped_after columns)) commands_are
+      ∙ ap (option_and_then stepped_beside) columns_are

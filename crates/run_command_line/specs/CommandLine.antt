@@ -1,5 +1,5 @@
 -- The command line as `clap` reads it, and how the program stops if the command line asks for no run.
-use Rattle.std.specs.Prelude.{◌≡◌, ◌⊎◌, ◌&&◌, ◌||◌, ◌==◌, ℕ, Bool, true, false, List, [], ◌∷◌, Option, Some, None, codes, if◌then◌else◌, is_none, is_some, length, nat_eq, nat_le, option_and_then, option_map}
+use Rattle.std.specs.Prelude.{◌≡◌, ◌⊎◌, ◌&&◌, ◌||◌, ◌==◌, ℕ, Bool, true, false, List, [], ◌∷◌, Option, Some, None, codes, if◌then◌else◌, is_none, is_some, length, nat_eq, nat_le, not, option_and_then, option_map}
 use Rattle.std.specs.Cow.{cow_str_bytes}
 use Rattle.std.specs.List.{after_first, before_first}
 use Rattle.std.specs.Option.{unwrap_or}
@@ -26,6 +26,7 @@ use Rattle.run_command_line.specs.declared.stop.Stop.{Stop}
 use Rattle.run_command_line.specs.declared.draw_args.DrawArgs.{DrawArgs}
 use Rattle.run_command_line.specs.declared.explore_args.ExploreArgs.{ExploreArgs}
 use Rattle.run_command_line.specs.declared.explore_args.ShownArgs.{ShownArgs}
+use Rattle.run_command_line.specs.declared.explore_args.StepsArgs.{StepsArgs}
 use Rattle.run_command_line.specs.declared.explore_args.Told.{Told}
 use Rattle.run_command_line.specs.declared.explore_args.Told.TheVariants.{All, Answer, Outcome, Steps, Verdict}
 use Rattle.explore_interleavings.specs.declared.pair.MeshPair.{MeshPair}
@@ -68,8 +69,8 @@ text_rule name = record (new_rule name) { long = Some name; value_names = 1 }
 abbrev pub texts_rule : Text → Rule
 texts_rule name = record (text_rule name) { action = Some Append }
 
--- the option `--mesh`: it is required, and may be given several times, each time with a text. Help shows one value for
--- the option
+-- the option `--mesh` of `explore`: it is required, and may be given several times, each time with a text. Help shows
+-- one value for the option
 abbrev pub mesh_rule : Rule
 mesh_rule = record (new_rule (codes "mesh")) { long = Some (codes "mesh"); action = Some Append; required = true; value_names = 1 }
 
@@ -85,11 +86,15 @@ threads_app = with_rule (with_rule (with_rule (with_rule (with_rule (with_rule (
     (required_number (codes "seed") 0 18446744073709551615)) (number_or (codes "meshers") 1 10 (codes "1")))
     (number_rule (codes "pace") 1 65536)) (flag_rule (codes "history"))) (flag_rule (codes "report"))) (flag_rule (codes "explain"))
 
--- `draw FILE [--from N] [--to N] [--columns N | --text | --html]`
+-- `draw FILE [--from N] [--to N] [--columns N | --text | --html]`, or
+-- `draw FILE --mesh SRC:DST [--mesh ..] [--steps LIST] [--any N [--store split|stale] [--load stale] [--free split]]
+-- [--states N] [--columns N]`
 abbrev pub draw_app : App
-draw_app = with_rule (with_rule (with_rule (with_rule (with_rule (with_rule (new_app (codes "draw")) file_rule)
-    (number_or (codes "from") 1 1048576 (codes "1"))) (number_or (codes "to") 1 1048576 (codes "1048576")))
-    (number_rule (codes "columns") 0 64)) (flag_rule (codes "text"))) (flag_rule (codes "html"))
+draw_app = with_rule (with_rule (with_rule (with_rule (with_rule (with_rule (with_rule (with_rule (with_rule (with_rule (with_rule (with_rule (with_rule
+    (new_app (codes "draw")) file_rule) (number_or (codes "from") 1 1048576 (codes "1"))) (number_or (codes "to") 1 1048576 (codes "1048576")))
+    (number_rule (codes "columns") 0 64)) (flag_rule (codes "text"))) (flag_rule (codes "html"))) (texts_rule (codes "mesh")))
+    (text_rule (codes "steps"))) (number_rule (codes "any") 0 1000)) (text_rule (codes "store"))) (text_rule (codes "load"))) (text_rule (codes "free")))
+    (number_or (codes "states") 1 10000000 (codes "100000"))
 
 -- `live [--pages P] [--history H] [--workers N]`
 abbrev pub live_app : App
@@ -177,14 +182,16 @@ pub record Judged : Type 0 where
   pub conditions : ConditionTexts
 
 -- the list of steps by which meshes are made, `None` for the steps of the heap's own meshes, how many commands a client
--- gives at most, if a client gives them, and how loads, stores and frees are made
+-- gives at most, if a client gives them, and how loads, stores and frees are made. Then the columns of a picture of a
+-- shortest plan, 0 for as many as fit, or `None` if a report is printed
 pub record Stepped : Type 0 where
   pub list : Option Text
   pub commands : Option ℕ
   pub timing : Timing
+  pub picture : Option ℕ
 
 -- what is printed of an exploration: all outcomes, one outcome or one answer as a job file, a verdict, or a report on
--- meshes that are made by a list of steps
+-- meshes that are made by a list of steps, or a picture of a shortest plan to what goes wrong with them
 pub data ToldOf : Type 0 where
   tells_all : ToldOf
   tells_outcome : ℕ → ToldOf
@@ -192,9 +199,9 @@ pub data ToldOf : Type 0 where
   tells_verdict : Judged → ToldOf
   tells_steps : Stepped → ToldOf
 
--- what `explore` is asked for: the meshes, after how many steps each mesh is cancelled, if at all, and the greatest
--- number of states. Then what is printed, whether a verdict may be positive if a mesh never begins, and whether the
--- number of states found is printed as well
+-- what `explore` is asked for, or `draw` with meshes: the meshes, after how many steps each mesh is cancelled, if at
+-- all, and the greatest number of states. Then what is printed, whether a verdict may be positive if a mesh never
+-- begins, and whether the number of states found is printed as well
 pub record Explored : Type 0 where
   pub meshes : List MeshPair
   pub cancel : Option ℕ
@@ -242,7 +249,7 @@ pub record Compared : Type 0 where
 --   `threads_report_of`: the run, with a report on its threads and its heap
 -- - `draw_of`: a picture of part of the plan; `draw_text_of`: the heap after each line of this part, as text;
 --   `draw_html_of`: a page that steps through these heaps
--- - `explore_of`: an exploration of the commands that the plan leaves
+-- - `explore_of`: an exploration of the commands that the plan leaves, or a picture of a shortest plan that it finds
 -- - `live_of`: a session of these sizes
 -- - `check_of`: a judgement of the history; `savings_of`: what meshing saves for the history
 pub data Asked : Type 0 where
@@ -336,7 +343,8 @@ shown_in rows =
     option_and_then (λ from. option_and_then (λ to. option_and_then (λ columns. in_plan_order (record { from = from; to = to; columns = columns }))
     (columns_in rows)) (number_in (codes "to") 1 1048576 rows)) (number_in (codes "from") 1 1048576 rows)
 
--- what `draw` asks for: by whether `--text`, `--html` and `--columns` are given. At most one of them may be
+-- what `draw` asks for without a mesh, by whether `--text`, `--html` and `--columns` are given. At most one of them may
+-- be given
 abbrev pub draw_by : Text → Shown → Bool → Bool → Bool → Option Asked
 draw_by file shown false false columns = Some (draw_of file shown)
 draw_by file shown true false false = Some (draw_text_of file shown)
@@ -345,9 +353,9 @@ draw_by file shown false true false = Some (draw_html_of file shown)
 draw_by file shown false true true = None
 draw_by file shown true true columns = None
 
--- what `draw` asks for according to its matches
-abbrev pub draw_in : Text → List Row → Option Asked
-draw_in file rows =
+-- what `draw` asks for without a mesh, according to its matches
+abbrev pub drawn_plan_in : Text → List Row → Option Asked
+drawn_plan_in file rows =
     option_and_then (λ shown. option_and_then (λ is_text. option_and_then (λ is_page. draw_by file shown is_text is_page (is_some (first_of (codes "columns") rows)))
     (flag_in (codes "html") rows)) (flag_in (codes "text") rows)) (shown_in rows)
 
@@ -480,8 +488,9 @@ timing_in rows =
 -- made so. Only a client makes accesses in two moves
 abbrev pub told_with : Option Text → Option ℕ → Timing → ToldOf → Option ToldOf
 told_with None None timing told = if is_plain timing then Some told else None
-told_with (Some list) None timing told = if is_plain timing then steps_told (record { list = Some list; commands = None; timing = timing }) told else None
-told_with list (Some commands) timing told = steps_told (record { list = list; commands = Some commands; timing = timing }) told
+told_with (Some list) None timing told =
+    if is_plain timing then steps_told (record { list = Some list; commands = None; timing = timing; picture = None }) told else None
+told_with list (Some commands) timing told = steps_told (record { list = list; commands = Some commands; timing = timing; picture = None }) told
 
 -- what is printed according to the matches, with these conditions
 abbrev pub told_in : ConditionTexts → List Row → Option ToldOf
@@ -509,6 +518,56 @@ explored_in conditions rows =
     option_and_then (λ allowed. option_and_then (λ is_watched.
     in_agreement (record { meshes = meshes; cancel = cancel; states = states; told = told; allows_no_mesh = allowed; is_watched = is_watched }))
     (flag_in (codes "progress") rows)) (flag_in (codes "allow-no-mesh") rows)) (told_in conditions rows)) (number_in (codes "states") 1 10000000 rows)) (given_in (codes "cancel") 0 1000 rows)) (meshes_in rows)
+
+-- whether the part of a plan is the whole plan: from the first line to the last that may be asked for
+abbrev pub is_whole_plan : Shown → Bool
+is_whole_plan shown = nat_eq shown.from 1 && nat_eq shown.to 1048576
+
+-- the columns of a picture of a shortest plan, by whether `--text` and `--html` are given. The picture is of the whole
+-- plan, and neither a text nor a page of the plan is printed
+abbrev pub picture_by : Shown → Bool → Bool → Option ℕ
+picture_by shown is_text is_page = if is_text || (is_page || not (is_whole_plan shown)) then None else Some shown.columns
+
+-- the columns of a picture of a shortest plan according to the matches of `draw`
+abbrev pub picture_in : List Row → Option ℕ
+picture_in rows =
+    option_and_then (λ shown. option_and_then (λ is_text. option_and_then (picture_by shown is_text) (flag_in (codes "html") rows)) (flag_in (codes "text") rows))
+    (shown_in rows)
+
+-- whether accesses are made in two moves, and no client makes them
+abbrev pub lacks_client : Option ℕ → Timing → Bool
+lacks_client commands timing = is_none commands && not (is_plain timing)
+
+-- the list of steps, if only a client makes accesses in two moves
+abbrev pub by_client : Stepped → Option Stepped
+by_client stepped = if lacks_client stepped.commands stepped.timing then None else Some stepped
+
+-- the list of steps, the client and the picture according to the matches of `draw`
+abbrev pub drawn_steps_in : List Row → Option Stepped
+drawn_steps_in rows =
+    option_and_then (λ columns. option_and_then (λ commands. option_and_then (λ timing.
+    by_client (record { list = other_list (first_of (codes "steps") rows); commands = commands; timing = timing; picture = Some columns }))
+    (timing_in rows)) (given_in (codes "any") 0 1000 rows)) (picture_in rows)
+
+-- the exploration whose shortest plan `draw` draws, according to its matches. Some mesh may begin in no interleaving
+abbrev pub drawn_exploration_in : List Row → Option Explored
+drawn_exploration_in rows =
+    option_and_then (λ meshes. option_and_then (λ states. option_map
+    (λ stepped. record { meshes = meshes; cancel = None; states = states; told = tells_steps stepped; allows_no_mesh = true; is_watched = false })
+    (drawn_steps_in rows)) (number_in (codes "states") 1 10000000 rows)) (meshes_in rows)
+
+-- whether an option of `draw` is given that needs a mesh
+abbrev pub has_steps_option : List Row → Bool
+has_steps_option rows =
+    is_some (first_of (codes "steps") rows) || (is_some (first_of (codes "any") rows) || (is_some (first_of (codes "store") rows)
+    || (is_some (first_of (codes "load") rows) || is_some (first_of (codes "free") rows))))
+
+-- what `draw` asks for according to its matches: with a mesh the shortest plan of an exploration, and otherwise the
+-- plan of the file, without the options that need a mesh
+abbrev pub draw_in : Text → List Row → Option Asked
+draw_in file rows =
+    if is_some (first_of (codes "mesh") rows) then option_map (explore_of file) (drawn_exploration_in rows)
+    else (if has_steps_option rows then None else drawn_plan_in file rows)
 
 -- the seed of `savings`: with `--first-fit` none, otherwise the given seed, or 1 if none is given. The outer `None` is
 -- a seed that isn't in range or that is given together with `--first-fit`
@@ -650,13 +709,17 @@ shown_of args = record { from = args.from; to = args.to; columns = args.columns 
 abbrev pub shown_answer_of : ShownArgs → ShownAnswer
 shown_answer_of args = record { line = args.line; answer = args.answer.now; phase = args.phase.now }
 
+-- the list of steps in parsed arguments, the client, and the picture
+abbrev pub stepped_of : StepsArgs → Stepped
+stepped_of args = record { list = option_map (λ list. list.now) args.list; commands = args.commands; timing = args.timing; picture = args.picture }
+
 -- what is printed according to parsed arguments, with these conditions
 abbrev pub told_of : ConditionTexts → Told → ToldOf
 told_of conditions All = tells_all
 told_of conditions (Outcome number) = tells_outcome number
 told_of conditions (Answer shown) = tells_answer (shown_answer_of shown)
 told_of conditions (Verdict expect) = tells_verdict (record { expect = option_map (λ path. path.now) expect; conditions = conditions })
-told_of conditions (Steps args) = tells_steps (record { list = option_map (λ list. list.now) args.list; commands = args.commands; timing = args.timing })
+told_of conditions (Steps args) = tells_steps (stepped_of args)
 
 -- the exploration in parsed arguments, with these conditions
 abbrev pub explored_of : ConditionTexts → ExploreArgs → Explored

@@ -56,7 +56,7 @@ pub enum Args<'a> {
     /// `live ..`: answer the lines of standard input, on a heap with these sizes.
     Live(LiveArgs),
     /// `explore FILE --mesh SRC:DST ..`: explore the commands that the plan of the job file at this path leaves, with
-    /// these meshes.
+    /// these meshes. `draw FILE --mesh SRC:DST ..`: draw the shortest plan to what goes wrong in such an exploration.
     Explore(&'a str, ExploreArgs<'a>),
     /// `check FILE ..`: judge the recorded history at this path. The path `-` is standard input.
     Check(&'a str, CheckArgs),

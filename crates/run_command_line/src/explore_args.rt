@@ -1,11 +1,11 @@
-//! The arguments of `explore`.
+//! The arguments of `explore`, and of `draw` with `--mesh`.
 ghost use Rattle.run_command_line.specs.ExploreArgs.{AreInRange};
 
 use crate::Meshes;
 use model_otherwise::Timing;
 
-/// The arguments of `explore` other than its file. The type guarantees that `meshes`, `cancel` and `states` are in
-/// their ranges.
+/// The arguments of `explore`, or of `draw` with `--mesh`, other than its file. The type guarantees that `meshes`,
+/// `cancel` and `states` are in their ranges.
 #[derive(Clone, Copy)]
 pub struct ExploreArgs<'a> {
     /// The meshes, one to ten.
@@ -35,7 +35,7 @@ pub enum Told<'a> {
     /// A verdict on the outcomes. If a path is given, the outcomes are compared with those that the file at this path
     /// lists. The conditions of the request are judged too.
     Verdict(Option<&'a str>),
-    /// A report on meshes that are made by a list of steps.
+    /// A report on meshes that are made by a list of steps, or a picture of a shortest plan to what goes wrong.
     Steps(StepsArgs<'a>),
 }
 
@@ -48,6 +48,9 @@ pub struct StepsArgs<'a> {
     pub commands: Option<u32>,
     /// How loads, stores and frees are made.
     pub timing: Timing,
+    /// The number of cards in a row, 0 for the number that fits, if a picture of a shortest plan is asked for. `None`
+    /// for a report.
+    pub picture: Option<u32>,
 }
 
 /// The answer that `--show` names.

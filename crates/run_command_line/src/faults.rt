@@ -4,6 +4,7 @@ ghost use Rattle.clap.specs.Words.{kind_of};
 
 use crate::clap_command::{PROGRAM, subcommand_of};
 use crate::conditions::texts;
+use crate::draw::has_steps_option;
 use crate::mesh_texts::{first_unread, meshes};
 use crate::options::{
     ALWAYS, ANY, COLUMNS, CONDITION, DRAW, EXISTS, EXPLORE, HTML, MESH, NEVER, REPLAY, SAVINGS,
@@ -31,11 +32,17 @@ const COLUMNS_OF_PAGE: &str = "--columns and --html exclude each other";
 /// The error message if the first line to draw is behind the last.
 const BEYOND_LAST: &str = "--from is greater than --to";
 
+/// The error message if an option of `draw` for the steps of meshes is given without a mesh.
+const STEPS_WITHOUT_MESH: &str = "--steps, --any, --store, --load and --free need --mesh";
+
+/// The error message if the shortest plan of an exploration is asked for in part or in another form than a picture.
+const SHORTEST_IN_PART: &str = "--mesh excludes --from, --to, --text and --html";
+
 /// The error message if both flags of `threads` that select what is printed are given.
 const THREADS_TWICE: &str = "--history and --report exclude each other";
 
-/// The error message if an option of `explore` for how a client's accesses are made can't be read, or is given without
-/// a client.
+/// The error message if an option of `explore` or `draw` for how a client's accesses are made can't be read, or is
+/// given without a client.
 const UNREAD_TIMING: &str =
     "--store is split or stale, --load is stale and --free is split, and each needs --any";
 
@@ -96,12 +103,36 @@ fn draw_fault<'a>(
 ) -> Result<Error, AllocError>
     ensures { IfOk result (λ error. kind_of error ≡ ErrorKind.ValueValidation) }
 {
-    fault_of(alloc, program, &DRAW, draw_message(matches))
+    let message = draw_message(alloc, matches)?;
+    fault_of(alloc, program, &DRAW, message.as_str())
 }
 
-/// Returns the message about options of `draw` that the program doesn't accept. The reasons are options that exclude
-/// each other, and a first line behind the last.
-fn draw_message<'a>(matches: &ArgMatches<'a>) -> &'static str {
+/// Returns the message about options of `draw` that the program doesn't accept.
+fn draw_message<'a>(alloc: Global, matches: &ArgMatches<'a>) -> Result<String, AllocError> {
+    if has_value(matches, MESH) {
+        return draw_steps_message(alloc, matches);
+    }
+    if has_steps_option(matches) {
+        return String::from_str(alloc, STEPS_WITHOUT_MESH);
+    }
+    String::from_str(alloc, drawn_plan_message(matches))
+}
+
+/// Returns the message about options of `draw` with `--mesh` that the program doesn't accept. The reasons are meshes
+/// that can't be read or are too many, accesses that can't be made as asked for, and options that `--mesh` excludes.
+fn draw_steps_message<'a>(alloc: Global, matches: &ArgMatches<'a>) -> Result<String, AllocError> {
+    if meshes(matches).is_none() {
+        return mesh_message(alloc, matches);
+    }
+    if !has_read_timing(matches) {
+        return String::from_str(alloc, UNREAD_TIMING);
+    }
+    String::from_str(alloc, SHORTEST_IN_PART)
+}
+
+/// Returns the message about options of `draw` for the plan of a file that the program doesn't accept. The reasons are
+/// options that exclude each other, and a first line behind the last.
+fn drawn_plan_message<'a>(matches: &ArgMatches<'a>) -> &'static str {
     let is_text = is_given(matches, TEXT).unwrap_or(false);
     let is_page = is_given(matches, HTML).unwrap_or(false);
     let has_columns = has_value(matches, COLUMNS.name);

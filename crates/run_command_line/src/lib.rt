@@ -12,6 +12,7 @@ mod command_line;
 mod conditions;
 mod draw;
 mod draw_args;
+mod draw_steps;
 mod explore;
 mod explore_args;
 mod faults;

@@ -261,6 +261,13 @@ pub(crate) struct TextOption {
     pub(crate) help: &'static str,
 }
 
+// The option `--mesh` of `draw`, which may be left out.
+const MESH_OPTION: TextOption = TextOption {
+    name: MESH,
+    value: GROUPS,
+    help: "Draw the shortest plan to what goes wrong in an exploration with a mesh of group SRC into group DST, each 0 to 65535; up to 10 times",
+};
+
 pub(crate) const SHOW: &str = "show";
 
 const SHOW_OPTION: TextOption = TextOption {
@@ -499,12 +506,13 @@ pub(crate) const REPLAY: Subcommand = Subcommand {
     ],
 };
 
-/// Examples of `draw`: a picture, a page, and the heap after one line as text.
+/// Examples of `draw`: a picture, a page, the heap after one line as text, and a shortest plan to a wrong answer.
 const DRAW_EXAMPLES: &str = "\
 Examples:
   meshrun draw jobs/examples/mesh.job > mesh.svg
   meshrun draw jobs/examples/mesh.job --html > mesh.html
-  meshrun draw jobs/examples/mesh.job --text --from 9 --to 9";
+  meshrun draw jobs/examples/mesh.job --text --from 9 --to 9
+  meshrun draw jobs/otherwise/setting_one.job --mesh 1:0 --any 2 --steps 'copy protect remap unprotect release' > plan.svg";
 
 /// The subcommand `draw`.
 pub(crate) const DRAW: Subcommand = Subcommand {
@@ -524,6 +532,13 @@ pub(crate) const DRAW: Subcommand = Subcommand {
             HTML,
             "Print an HTML page that steps through the same heaps with the arrow keys instead of a picture",
         ),
+        Argument::Texts(MESH_OPTION),
+        Argument::Text(STEPS_OPTION),
+        Argument::Optional(ANY_OPTION),
+        Argument::Text(STORE_OPTION),
+        Argument::Text(LOAD_OPTION),
+        Argument::Text(FREE_OPTION),
+        Argument::Default(STATES_OPTION, "100000"),
     ],
 };
 

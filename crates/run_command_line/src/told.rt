@@ -3,7 +3,7 @@ ghost use Rattle.std.specs.Prelude.{◌≡◌, option_map};
 ghost use Rattle.clap.specs.Words.{found_of, rows_of};
 ghost use Rattle.model_otherwise.specs.Timed.{is_plain, is_whole};
 ghost use Rattle.run_command_line.specs.Conditions.{ConditionTexts, conditions_of};
-ghost use Rattle.run_command_line.specs.CommandLine.{asks_verdict, free_making, listing_told_in, load_making, number_of, other_list, shown_answer_of, shown_behind, shown_given_in, shown_of_text, store_making, timing_in, told_by, told_in, told_of, told_with};
+ghost use Rattle.run_command_line.specs.CommandLine.{asks_verdict, free_making, lacks_client, listing_told_in, load_making, number_of, other_list, shown_answer_of, shown_behind, shown_given_in, shown_of_text, store_making, timing_in, told_by, told_in, told_of, told_with};
 
 use crate::options::{
     ANY, EXPECT, FREE, LOAD, RIGHT_STEPS, SHOW, SPLIT, STALE, STEPS, STORE, WITNESS,
@@ -30,7 +30,7 @@ pub(crate) fn told<'a>(matches: &ArgMatches<'a>, conditions: &Conditions<'a>) ->
 }
 
 /// Returns the list of steps that a text names. Returns `None` for the steps of the heap's own meshes.
-fn other_list<'a>(text: Option<&'a str>) -> Option<&'a str>
+pub(crate) fn other_list<'a>(text: Option<&'a str>) -> Option<&'a str>
     ensures { option_map (λ list. list.now) result ≡ other_list (option_map (λ list. list.now) text.entry) }
 {
     let list = text?;
@@ -103,6 +103,13 @@ fn is_whole(making: Making) -> bool
     matches!(making, Making::Whole)
 }
 
+/// Whether accesses are made in two moves although no client is asked for.
+pub(crate) fn lacks_client(commands: Option<u32>, timing: Timing) -> bool
+    ensures { result ≡ lacks_client commands timing }
+{
+    commands.is_none() && !is_plain(timing)
+}
+
 /// Returns the selection of what an exploration prints, if `told` is asked for of outcomes. A report on steps is
 /// printed if a list of steps or a client is asked for. Returns `None` if `told` asks for something else too, or if
 /// accesses are made in two moves without a client.
@@ -115,7 +122,7 @@ fn told_with<'a>(
     ensures { (conditions : ConditionTexts) → option_map (told_of conditions) result
         ≡ told_with (option_map (λ list. list.now) list.entry) commands timing (told_of conditions told.entry) }
 {
-    if commands.is_none() && !is_plain(timing) {
+    if lacks_client(commands, timing) {
         return None;
     }
     if list.is_none() && commands.is_none() {
@@ -126,6 +133,7 @@ fn told_with<'a>(
             list,
             commands,
             timing,
+            picture: None,
         })),
         _ => None,
     }

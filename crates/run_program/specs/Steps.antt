@@ -1,5 +1,5 @@
 -- What a report on meshes that are made by a list of steps writes, and what was read and written if it stops.
-use Rattle.std.specs.Prelude.{◌≡◌, ◌<◌, ◌≤◌, ◌⊎◌, ℕ, ◌-◌, Bool, true, false, List, [], ◌++◌, codes, decimal, length, map, min, not, option_map, slice_index_or, take}
+use Rattle.std.specs.Prelude.{◌≡◌, ◌<◌, ◌≤◌, ◌⊎◌, ℕ, ◌-◌, Bool, true, false, List, [], ◌++◌, codes, decimal, is_some, length, map, min, not, option_map, slice_index_or, take}
 use Rattle.std.specs.Option.{unwrap_or}
 use Rattle.explore_interleavings.specs.declared.pair.MeshPair.{MeshPair}
 use Rattle.explore_otherwise.specs.declared.setting.Pair.{Pair}
@@ -7,7 +7,7 @@ use Rattle.explore_otherwise.specs.Settings.{pair_of}
 use Rattle.model_otherwise.specs.States.{Pair as PairParts}
 use Rattle.otherwise_report.specs.Runs.{HasReported, HasStopped}
 use Rattle.otherwise_report.specs.declared.errors.StepsError.{StepsError}
-use Rattle.otherwise_report.specs.declared.errors.StepsError.TheVariants.{Replay, TooManyStates, Steps, PlanLine}
+use Rattle.otherwise_report.specs.declared.errors.StepsError.TheVariants.{Replay, TooManyStates, Steps, PlanLine, NothingWrong}
 use Rattle.otherwise_report.specs.declared.list_fault.ListFault.{ListFault}
 use Rattle.otherwise_report.specs.declared.list_fault.ListFault.TheVariants.{WordCount, NoStep, NotJoined, NotByPage, Parenthesis, Unclosed}
 use Rattle.text_fields.specs.Lines.{line_fields}
@@ -57,14 +57,16 @@ steps_text list states (Replay error) = error_text error
 steps_text list states TooManyStates = codes "too many states: more than " ++ decimal states ++ codes "; --states raises the limit"
 steps_text list states (Steps fault) = list_fault_text list fault
 steps_text list states (PlanLine number) = codes "plan line " ++ decimal number ++ codes ": neither an answered run nor a whole mesh"
+steps_text list states NothingWrong = codes "nothing is wrong: there is no plan to draw"
 
--- the status of an error that stops a report: 2 if the list of steps or the job can't be used, 4 if there are too many
--- states, otherwise that of a replay's error
+-- the status of an error that stops a report: 2 if the list of steps or the job can't be used, 3 if there is nothing to
+-- draw, 4 if there are too many states, otherwise that of a replay's error
 abbrev pub steps_status : StepsError → ℕ
 steps_status (Replay error) = status_of_error error
 steps_status TooManyStates = 4
 steps_status (Steps fault) = 2
 steps_status (PlanLine number) = 2
+steps_status NothingWrong = 3
 
 -- the device that the error names, if any, has failed
 abbrev pub HasFailedSteps : Bool → Bool → StepsError → Type 0
@@ -72,15 +74,16 @@ HasFailedSteps input output (Replay error) = HasFailed input output error
 HasFailedSteps input output TooManyStates = Unit {0}
 HasFailedSteps input output (Steps fault) = Unit {0}
 HasFailedSteps input output (PlanLine number) = Unit {0}
+HasFailedSteps input output NothingWrong = Unit {0}
 
--- the job was read, and the report was written: whether nothing is wrong
+-- the job was read, and the report was written: whether nothing is wrong. Or the picture that is asked for was written
 abbrev pub HasReportedBy : ExploreArgs → StepsArgs → Bool → Moves
 HasReportedBy args asked well left left' written written' =
-    HasReported (list_text asked) (pairs_asked args) asked.commands asked.timing args.states (not args.allows_no_mesh) left left' written written' well
+    HasReported (list_text asked) (pairs_asked args) asked.commands asked.timing args.states (not args.allows_no_mesh) (is_some asked.picture) left left' written written' well
 
 -- what was read before a report stopped for this error
 abbrev pub HasStoppedSteps : ExploreArgs → StepsArgs → MovesBy StepsError
-HasStoppedSteps args asked left left' written written' error = HasStopped (list_text asked) (pairs_asked args) asked.commands asked.timing args.states left left' error
+HasStoppedSteps args asked left left' written written' error = HasStopped (list_text asked) (pairs_asked args) asked.commands asked.timing args.states (is_some asked.picture) left left' error
 
 -- how a report ends. If the status is 0, nothing is wrong, and each mesh that must begin does so in some interleaving.
 -- Otherwise the status is 3 and something is wrong, or the exploration stopped for an error with this status. The

@@ -1,6 +1,7 @@
 //! The program's report on meshes that are made by a list of steps.
-ghost use Rattle.std.specs.Prelude.{◌≡◌, ◌+◌, ◌-◌, ◌≤◌, ◌++◌, [], false, IfErr, IfOk, OnOk, length, map, slice_index_or};
+ghost use Rattle.std.specs.Prelude.{◌≡◌, ◌+◌, ◌-◌, ◌≤◌, ◌++◌, [], false, IfErr, IfOk, OnOk, is_some, length, map, slice_index_or};
 ghost use Rattle.model_jobs.specs.Texts.{ended};
+ghost use Rattle.otherwise_report.specs.Runs.{is_picture};
 ghost use Rattle.run_program.specs.Runs.{HasTold, IsSound};
 ghost use Rattle.run_program.specs.Steps.{EndsSteps, HasFailedSteps, HasReportedBy, HasStoppedSteps, list_fault_text, list_text, pair_asked, steps_status, steps_text, word_shown, word_text};
 ghost use Rattle.text_fields.specs.Lines.{line_fields};
@@ -11,7 +12,7 @@ use crate::{Devices, ExploreArgs, MeshPair, StepsArgs};
 use arrayvec::ArrayVec;
 use explore_otherwise::Pair;
 use itoa::Buffer;
-use otherwise_report::{ListFault, StepsError, StepsOptions, explore_steps};
+use otherwise_report::{Form, ListFault, PictureOptions, StepsError, StepsOptions, explore_steps};
 use run_command_line::status::{DONE, FAULTY, NEGATIVE, UNDECIDED};
 use states_reach::Watch;
 use std::alloc::{AllocError, Global};
@@ -19,7 +20,7 @@ use text_devices::{Sink, Source};
 use text_fields::lines::cut;
 
 /// The list of the steps of the heap's own meshes.
-const RIGHT_STEPS: &[u8] = b"protect copy remap unprotect release";
+const RIGHT_STEPS: &str = "protect copy remap unprotect release";
 
 /// The greatest number of bytes of a word that a fault shows.
 const SHOWN_BYTES: usize = 40;
@@ -27,8 +28,8 @@ const SHOWN_BYTES: usize = 40;
 /// The bytes of a line about a list of steps, with room for the longest.
 type WordLine = ArrayVec<u8, 128>;
 
-/// Explores the job in the input with meshes that are made by the list of steps that is asked for, writes the report to
-/// the output or a fault to `errors`, and returns the exit status.
+/// Explores the job in the input with meshes that are made by the list of steps that is asked for, writes the report or
+/// the picture that is asked for to the output or a fault to `errors`, and returns the exit status.
 pub(crate) fn steps_run<I: Source, O: Sink, E: Sink, W: Watch>(
     alloc: Global,
     args: &ExploreArgs<'_>,
@@ -56,7 +57,8 @@ pub(crate) fn steps_run<I: Source, O: Sink, E: Sink, W: Watch>(
     }
 }
 
-/// Writes the report, and returns whether nothing is wrong and each mesh that must begin does so.
+/// Writes the report, and returns whether nothing is wrong and each mesh that must begin does so. If a picture is asked
+/// for, writes it instead, and returns true.
 fn write_report<I: Source, O: Sink, W: Watch>(
     alloc: Global,
     args: &ExploreArgs<'_>,
@@ -82,6 +84,7 @@ fn write_report<I: Source, O: Sink, W: Watch>(
         timing: asked.timing,
         states: args.states,
         must_begin: !args.allows_no_mesh,
+        form: form_of(asked),
     };
     explore_steps(alloc, input, output, &options, watch)
 }
@@ -100,12 +103,32 @@ fn pairs_of(alloc: Global, meshes: &[MeshPair]) -> Result<Vec<Pair>, AllocError>
     Ok(pairs)
 }
 
+/// Returns what is asked for: a report, or a picture whose title is the list of steps.
+fn form_of<'a>(asked: &StepsArgs<'a>) -> Form<'a>
+    ensures { is_picture result ≡ is_some asked.now.picture }
+{
+    match asked.picture {
+        Some(columns) => Form::Picture(PictureOptions {
+            title: title_of(asked),
+            columns,
+        }),
+        None => Form::Report,
+    }
+}
+
 /// Returns the text of the list of steps that is asked for.
 fn list_of<'a>(asked: &StepsArgs<'a>) -> &'a [u8]
     ensures { result.now ≡ list_text asked.now }
 {
+    title_of(asked).as_bytes()
+}
+
+/// Returns the list of steps that is asked for.
+fn title_of<'a>(asked: &StepsArgs<'a>) -> &'a str
+    ensures { result.now ≡ list_text asked.now }
+{
     match asked.list {
-        Some(list) => list.as_bytes(),
+        Some(list) => list,
         None => RIGHT_STEPS,
     }
 }
@@ -129,6 +152,10 @@ fn tell_stopped<E: Sink>(errors: &mut E, error: StepsError, list: &[u8], states:
                 errors,
                 number_line(b"plan line ", number, behind).as_slice(),
             );
+        }
+        StepsError::NothingWrong => {
+            let line = whole_line(b"nothing is wrong: there is no plan to draw");
+            tell(errors, line.as_slice());
         }
     }
 }
@@ -221,5 +248,6 @@ fn steps_status_of(error: StepsError) -> u8
         StepsError::Replay(error) => status_of(error),
         StepsError::TooManyStates => UNDECIDED,
         StepsError::Steps(_) | StepsError::PlanLine(_) => FAULTY,
+        StepsError::NothingWrong => NEGATIVE,
     }
 }

@@ -1,18 +1,21 @@
-use Rattle.std.proofs.Common.{◌∙◌, Bool, ap}
-use Rattle.std.specs.Prelude.{codes, is_some, option_and_then}
-use Rattle.clap.specs.Words.{first_of, found_of, rows_of}
-use Rattle.run_command_line.specs.CommandLine.{Shown, draw_by, flag_in, shown_of}
+use Rattle.std.proofs.Common.{◌∙◌, Bool, false, List, Option, None, ap, if◌then◌else◌, option_map}
+use Rattle.clap.specs.Words.{Row, Text, found_of, rows_of}
+use Rattle.run_command_line.specs.CommandLine.{Asked, drawn_exploration_in, drawn_plan_in, explore_of, has_steps_option}
 use Rattle.run_command_line.proofs.draw.draw.Goals as goal
+
+-- what `draw` asks for, by whether a mesh is given, and an option that needs one
+abbrev drawn_by : Text → List Row → Bool → Bool → Option Asked
+drawn_by file rows has_mesh has_option =
+    if has_mesh then option_map (explore_of file) (drawn_exploration_in rows) else (if has_option then None else drawn_plan_in file rows)
+
+pub returns-then-has_value : goal.returns-then-has_value
+returns-then-has_value c conditions =
+    let rows = rows_of (found_of c.args.matches.now) in
+    c.draw_steps.ensures conditions ∙ ap (λ (has : Bool). drawn_by c.args.file.now rows has (has_steps_option rows)) c.if-has_value.ensures
 
 pub returns : goal.returns
 returns c conditions =
-    let file = c.args.file.now in
     let rows = rows_of (found_of c.args.matches.now) in
-    let columns = is_some (first_of (codes "columns") rows) in
-    let shown = shown_of c.in_ok-shown.shown in
-    c.draw_of.ensures conditions
-    ∙ ap (λ (given : Bool). draw_by file shown c.in_ok-is_text.is_text c.in_ok-is_page.is_page given) c.has_value-has_columns.ensures
-    ∙ ap (option_and_then (λ (page : Bool). draw_by file shown c.in_ok-is_text.is_text page columns)) c.in_ok-is_page.ensures
-    ∙ ap (option_and_then (λ (text : Bool). option_and_then (λ (page : Bool). draw_by file shown text page columns) (flag_in (codes "html") rows))) c.in_ok-is_text.ensures
-    ∙ ap (option_and_then (λ (s : Shown). option_and_then (λ (text : Bool). option_and_then (λ (page : Bool). draw_by file s text page columns) (flag_in (codes "html") rows)) (flag_in (codes "text") rows)))
-    c.in_ok-shown.ensures
+    c.drawn_plan.ensures conditions
+    ∙ ap (drawn_by c.args.file.now rows false) c.if-has_steps_option.ensures
+    ∙ ap (λ (has : Bool). drawn_by c.args.file.now rows has (has_steps_option rows)) c.if-has_value.ensures
