@@ -55,11 +55,15 @@ RemapsOnePage =
     × ((effect memory Unmap 1 before).heap.entries ≡ None ∷ entry 5 ReadWrite ∷ None ∷ entry 7 ReadWrite ∷ [])
     × ((effect memory Remap 1 (effect memory Unmap 1 before)).heap.entries ≡ None ∷ entry 5 ReadWrite ∷ entry 7 ReadWrite ∷ entry 7 ReadWrite ∷ [])
 
--- a copy of a slot with an object copies its bytes between the physical pages, wherever the virtual page is mapped. A
--- copy of a slot without one copies nothing
+-- both members' pages are mapped to the destination's page
+abbrev pub remapped : Meshing
+remapped = effect memory Remap 0 (effect memory Remap 1 before)
+
+-- a copy of a slot with an object copies its bytes between the physical pages, wherever the members' pages are mapped.
+-- A copy of a slot without one copies nothing
 abbrev pub CopiesObjects : Type 0
 CopiesObjects =
-    (map (byte_at (effect memory Copy 1 (effect memory Remap 1 before)).heap.spots) (28672 ∷ 30720 ∷ 30721 ∷ 30722 ∷ 22528 ∷ []) ≡ 33 ∷ 17 ∷ 18 ∷ 0 ∷ 17 ∷ [])
+    (map (byte_at (effect memory Copy 1 remapped).heap.spots) (28672 ∷ 30720 ∷ 30721 ∷ 30722 ∷ 22528 ∷ []) ≡ 33 ∷ 17 ∷ 18 ∷ 0 ∷ 17 ∷ [])
     × ((effect memory Copy 0 before).heap ≡ heap)
 
 -- a piece of a slot is copied as far as there is an object. With one byte in a piece, piece 2,049 is byte 1 of slot 1
@@ -159,6 +163,11 @@ abbrev pub GoesThroughPages : Type 0
 GoesThroughPages =
     ((effect wide_memory Protect 4 wide_before).heap.entries
     ≡ None ∷ map open_entry (10 ∷ 11 ∷ 12 ∷ 10 ∷ []) ++ entry 11 ReadOnly ∷ map open_entry (12 ∷ 13 ∷ 14 ∷ 15 ∷ []))
+    × ((effect wide_memory Hide 4 wide_before).heap.entries
+    ≡ None ∷ map open_entry (10 ∷ 11 ∷ 12 ∷ 10 ∷ []) ++ entry 11 Hidden ∷ map open_entry (12 ∷ 13 ∷ 14 ∷ 15 ∷ []))
+    × ((effect wide_memory Unmap 4 wide_before).heap.entries
+    ≡ None ∷ map open_entry (10 ∷ 11 ∷ 12 ∷ 10 ∷ []) ++ None ∷ map open_entry (12 ∷ 13 ∷ 14 ∷ 15 ∷ []))
+    × ((effect wide_memory Unprotect 4 (effect wide_memory Protect 4 wide_before)).heap.entries ≡ wide_heap.entries)
     × ((effect wide_memory Remap 4 wide_before).heap.entries ≡ None ∷ map open_entry (10 ∷ 11 ∷ 12 ∷ 10 ∷ 14 ∷ 12 ∷ 13 ∷ 14 ∷ 15 ∷ []))
     × ((effect wide_memory Release 2 wide_before).heap.taken ≡ 10 ∷ 11 ∷ 13 ∷ 14 ∷ 15 ∷ [])
     × (map (byte_at (effect wide_memory Copy 10 wide_before).heap.spots) wide_places ≡ 21 ∷ 22 ∷ 0 ∷ [])
