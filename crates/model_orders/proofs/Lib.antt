@@ -10,3 +10,8 @@ pub mod RowMoves
 pub mod Merged
 pub mod FirstWrong
 pub mod FirstPlaces
+pub mod PageBytes
+pub mod PageStores
+pub mod PageViews
+pub mod SlotPlaces
+pub mod SpanBytes

@@ -7,3 +7,5 @@ pub mod Views
 pub mod ViewsLaws
 pub mod Wrong
 pub mod WrongLaws
+pub mod HeapRows
+pub mod HeapRowLaws

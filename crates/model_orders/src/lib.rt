@@ -4,6 +4,7 @@
 #![tactic(auto)]
 
 mod facts;
+pub mod heap_laws;
 pub mod merge_laws;
 pub mod rule_laws;
 mod steps;
