@@ -40,7 +40,7 @@ def main():
             print(f"{name:62} differs")
             alike = False
             continue
-        states = int(ours.split(b"\n")[1].split()[-1])
+        states = next(int(row.split()[1]) for row in ours.splitlines() if row.startswith(b"states "))
         bytes_each = max(peak - least, 0) * 1024 * 1024 / states
         speed, ratio = states / max(seconds, 0.01), seconds / max(plain, 0.01)
         print(f"{name:62} {states:8} {seconds:8.2f} {speed:9.0f} {bytes_each:11.0f} {ratio:6.1f}")

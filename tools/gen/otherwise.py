@@ -124,10 +124,14 @@ def moves_tables(engine):
 
 
 def report(engine, steps, job, commands, timing=""):
-    """The status and the lines of a report."""
+    """The status of a report, and its lines on what is wrong: those behind the number of states, without those on what
+    never happens.
+    """
     words = [engine, job, "--mesh", "1:0", "--steps", steps, "--any", str(commands), "--states", "10000000"]
     done = subprocess.run([*words, *timing.split()], capture_output=True, text=True)
-    return done.returncode, done.stdout.splitlines()
+    _, _, behind = done.stdout.partition("\nstates ")
+    rows = behind.splitlines()[1:]
+    return done.returncode, [row for row in rows if not row.startswith("no interleaving ")]
 
 
 def least_wrong(engine, steps, job, timing=""):
@@ -136,11 +140,11 @@ def least_wrong(engine, steps, job, timing=""):
     """
     reports = [report(engine, steps, job, commands, timing) for commands in range(MOST + 1)]
     wrong = [commands for commands, (status, _) in enumerate(reports) if status == 3]
-    answered = [commands for commands in wrong if reports[commands][1][2].startswith("wrong answer: ")]
+    answered = [commands for commands in wrong if reports[commands][1][0].startswith("wrong answer: ")]
     if not wrong:
         return None
     commands = (answered or wrong)[0]
-    head, _, *rest = reports[commands][1][2:]
+    head, _, *rest = reports[commands][1]
     plan = [shown(row.strip()) for row in itertools.takewhile(lambda row: row[0] == " ", rest)]
     return commands, head.removeprefix("wrong answer: client: "), "; ".join(plan)
 

@@ -1,5 +1,5 @@
 -- The lines of a plan that a picture shows, and the note that tells their numbers.
-use Rattle.std.specs.Prelude.{ℕ, List, Option, length, max, min}
+use Rattle.std.specs.Prelude.{ℕ, List, Option, Some, length, max, min}
 use Rattle.model_jobs.specs.Jobs.{Job}
 use Rattle.model_words.specs.declared.versions.Version.{Version}
 use Rattle.model_words.specs.declared.versions.Version.TheVariants.{One, Two}
@@ -18,4 +18,4 @@ lines_shown job from to = lines_between (max from 1) (next_shown (max from 1) (m
 
 -- how the note after a picture's title begins: the values of the job's header, and the lines that are shown
 abbrev pub note_of_job : Job → Option (ℕ × ℕ) → List ℕ
-note_of_job job lines = note_text (version_number job.version) job.pages (length job.scripts) lines
+note_of_job job lines = note_text (version_number job.version) job.pages (Some (length job.scripts)) lines

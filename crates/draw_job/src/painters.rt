@@ -70,7 +70,7 @@ impl Measuring {
 fn header_of(job: &Job) -> Header
     ensures version { result.version ≡ version_number job.now.version }
     ensures pages { result.pages ≡ job.now.pages }
-    ensures workers { result.workers ≡ length job.now.scripts }
+    ensures workers { result.workers ≡ Some (length job.now.scripts) }
 {
     let version = match job.version {
         Version::One => 1,
@@ -79,7 +79,7 @@ fn header_of(job: &Job) -> Header
     Header {
         version,
         pages: job.pages,
-        workers: job.scripts.count() as u32,
+        workers: Some(job.scripts.count() as u32),
     }
 }
 

@@ -18,11 +18,12 @@ shown_title name = cut_text 64 name
 abbrev pub file_title : List ℕ → List ℕ
 file_title name = codes "Meshing in " ++ cut_text 64 name
 
--- the values of a job's header
-unfoldable pub header_text : ℕ → ℕ → ℕ → List ℕ
-header_text version pages workers =
-    filled (if nat_eq workers 1 then codes "version #, # physical pages of 4096 bytes, # worker" else codes "version #, # physical pages of 4096 bytes, # workers")
-    (version ∷ pages ∷ workers ∷ [])
+-- the values of a job's header. If the number of workers isn't given, a client gives the commands
+unfoldable pub header_text : ℕ → ℕ → Option ℕ → List ℕ
+header_text version pages None = filled (codes "version #, # physical pages of 4096 bytes, a client") (version ∷ pages ∷ [])
+header_text version pages (Some workers) =
+    if nat_eq workers 1 then filled (codes "version #, # physical pages of 4096 bytes, 1 worker") (version ∷ pages ∷ [])
+    else filled (codes "version #, # physical pages of 4096 bytes, # workers") (version ∷ pages ∷ workers ∷ [])
 
 -- the numbers of the first and the last line from line `first` on that come before line `next`, if there is such a line
 abbrev pub lines_between : ℕ → ℕ → Option (ℕ × ℕ)
@@ -34,5 +35,5 @@ lines_text None = []
 lines_text (Some lines) = filled (codes "; plan lines # to #") (lines.0 ∷ lines.1 ∷ [])
 
 -- how the note after a title begins: the values of the job's header, and the lines that are shown
-abbrev pub note_text : ℕ → ℕ → ℕ → Option (ℕ × ℕ) → List ℕ
+abbrev pub note_text : ℕ → ℕ → Option ℕ → Option (ℕ × ℕ) → List ℕ
 note_text version pages workers lines = header_text version pages workers ++ lines_text lines

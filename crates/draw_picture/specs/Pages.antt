@@ -1,14 +1,16 @@
 -- The drawing of the virtual and the physical pages of a frame.
 use Rattle.std.specs.Prelude.{ℕ, ◌-◌, ◌/◌, ◌%◌, ◌^◌, ◌||◌, ◌&&◌, ◌++◌, ◌∷◌, [], Bool, false, not, List, Option, None, Some, codes, find, if◌then◌else◌, length, nat_eq, nat_le}
 use Rattle.std.specs.List.{flat_map, list_any}
+use Rattle.std.specs.Option.{is_some}
 use Rattle.std.specs.Str.{bytes_eq}
+use Rattle.model_words.specs.Classes.{pages_of}
 use Rattle.draw_picture.specs.Alike.{copied_slots}
 use Rattle.draw_picture.specs.Arrows.{arrows_text}
 use Rattle.draw_picture.specs.Layouts.{page_left, physical_left, span_of, span_width}
 use Rattle.draw_picture.specs.Lettering.{beginning, centred, ending, inked, label_text, limited}
 use Rattle.draw_picture.specs.Numbers.{plus}
 use Rattle.draw_picture.specs.Objects.{below, grid_text, listing, part_text}
-use Rattle.draw_picture.specs.Parts.{is_read_only, part_of, state_in}
+use Rattle.draw_picture.specs.Parts.{is_read_only, lead_of, part_of, state_in}
 use Rattle.draw_picture.specs.declared.frame.Counts.{Counts}
 use Rattle.draw_picture.specs.declared.frame.Frame.{Frame}
 use Rattle.draw_picture.specs.declared.frame.Home.{Home}
@@ -142,6 +144,30 @@ virtual_text layout now before span page = virtual_at layout now before span pag
 unfoldable pub mapped_text : Layout → Frame → Frame → Mapping → List ℕ
 mapped_text layout now before lead = listing (span_of layout lead.virtual_page) (λ span. virtual_text layout now before span lead.virtual_page)
 
+-- whether a virtual page is mapped
+abbrev pub is_mapped : Frame → ℕ → Bool
+is_mapped frame page = is_some (lead_of frame page)
+
+-- the place of a virtual page of a span that isn't mapped
+abbrev pub unmapped_at : Layout → Frame → Frame → Span → ℕ → ℕ → List ℕ
+unmapped_at layout now before span place page =
+    group_text (page_left layout span place) 540 ++ rect_text (plain (codes "no")) (page_area layout.page) 30
+    ++ labels_text page (codes "not mapped") layout.page ++ change_text (is_mapped before page) layout.page
+    ++ mark_text (marks_virtual now.mark page) layout.page ++ group_end
+
+-- the place of the page at a place of a span, if the page isn't mapped
+unfoldable pub unmapped_text : Layout → Frame → Frame → Span → ℕ → List ℕ
+unmapped_text layout now before span place =
+    if is_mapped now (plus span.first place) then [] else unmapped_at layout now before span place (plus span.first place)
+
+-- the places of a span's pages that aren't mapped, if there is such a member
+abbrev pub unmapped_in : Layout → Frame → Frame → Span → Option Member → List ℕ
+unmapped_in layout now before span None = []
+unmapped_in layout now before span (Some member) = below (pages_of span.class) (unmapped_text layout now before span)
+
+unfoldable pub unmapped_of_text : Layout → Frame → Frame → Span → List ℕ
+unmapped_of_text layout now before span = unmapped_in layout now before span (member_at now span.first)
+
 -- the home of a physical page, if the page is taken
 abbrev pub home_of : Frame → ℕ → Option Home
 home_of frame page = find (λ home. nat_eq home.page page && home.taken) frame.homes.items
@@ -213,9 +239,14 @@ spans_text layout now = flat_map (span_text layout now) layout.spans.items
 unfoldable pub all_mapped_text : Layout → Frame → Frame → List ℕ
 all_mapped_text layout now before = flat_map (mapped_text layout now before) now.leads.items
 
+-- the places of the virtual pages that aren't mapped
+abbrev pub all_unmapped_text : Layout → Frame → Frame → List ℕ
+all_unmapped_text layout now before = flat_map (unmapped_of_text layout now before) layout.spans.items
+
 -- the virtual pages with their name and the headings of spans
 unfoldable pub upper_text : Layout → Frame → Frame → List ℕ
-upper_text layout now before = pages_name (codes "virtual pages") 110 ++ spans_text layout now ++ all_mapped_text layout now before
+upper_text layout now before =
+    pages_name (codes "virtual pages") 110 ++ spans_text layout now ++ all_mapped_text layout now before ++ all_unmapped_text layout now before
 
 -- the physical pages, what is below them, and the arrows to them
 unfoldable pub lower_text : Layout → Frame → Frame → List ℕ

@@ -58,19 +58,24 @@ pub(crate) fn note_of(
 fn header_words(alloc: Global, header: Header) -> Result<Vec<u8>, AllocError>
     ensures { IfOk result (λ words. words.items ≡ header_text header.version header.pages header.workers) }
 {
-    let numbers = [header.version, header.pages, header.workers];
     match header.workers {
-        1 => words_of(
+        None => words_of(
             alloc,
             b"",
-            "version #, # physical pages of 4096 bytes, # worker",
-            &numbers,
+            "version #, # physical pages of 4096 bytes, a client",
+            &[header.version, header.pages],
         ),
-        _ => words_of(
+        Some(1) => words_of(
+            alloc,
+            b"",
+            "version #, # physical pages of 4096 bytes, 1 worker",
+            &[header.version, header.pages],
+        ),
+        Some(workers) => words_of(
             alloc,
             b"",
             "version #, # physical pages of 4096 bytes, # workers",
-            &numbers,
+            &[header.version, header.pages, workers],
         ),
     }
 }

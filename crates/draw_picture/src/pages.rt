@@ -2,8 +2,9 @@
 ghost use Rattle.std.specs.Prelude.{◌≡◌, ◌++◌, IfOk, OnOk};
 ghost use Rattle.std.specs.List.{flat_map};
 ghost use Rattle.draw_picture.specs.Objects.{below, listing, part_text};
-ghost use Rattle.draw_picture.specs.Pages.{all_mapped_text, bottom_text, bracket_text, change_text, contents_text, copies_text, counts_text, empty_text, free_text, heading_text, held_by, held_object_text, held_text, home_of, is_hidden, labels_text, lower_text, mapped_text, mark_text, marks_physical, marks_virtual, member_at, member_objects_text, member_text, object_text, objects_text, page_area, page_style, pages_name, pages_text, physical_text, protection_text, protection_words, span_text, spans_text, taken_text, upper_text, virtual_text};
+ghost use Rattle.draw_picture.specs.Pages.{all_mapped_text, all_unmapped_text, bottom_text, bracket_text, change_text, contents_text, copies_text, counts_text, empty_text, free_text, heading_text, held_by, held_object_text, held_text, home_of, is_hidden, is_mapped, labels_text, lower_text, mapped_text, mark_text, marks_physical, marks_virtual, member_at, member_objects_text, member_text, object_text, objects_text, page_area, page_style, pages_name, pages_text, physical_text, protection_text, protection_words, span_text, spans_text, taken_text, unmapped_of_text, unmapped_text, upper_text, virtual_text};
 ghost use Rattle.draw_svg.specs.Shapes.{style_of};
+ghost use Rattle.model_words.specs.Classes.{pages_of};
 
 use crate::alike::copied_slots;
 use crate::arrows::write_arrows;
@@ -12,7 +13,7 @@ use crate::layout::{Layout, PAD, PAGE_HEIGHT, Span};
 use crate::lettering::{Face, Label};
 use crate::numbers::plus;
 use crate::objects::{add_point, write_grid, write_part};
-use crate::parts::{GROUP_COLOURS, Part, State, is_read_only, part_of, state_in};
+use crate::parts::{GROUP_COLOURS, Part, State, is_read_only, lead_of, part_of, state_in};
 use draw_svg::{Area, Look, Way, end_group, write_group, write_path, write_rect};
 use std::alloc::{AllocError, Global};
 
@@ -51,7 +52,8 @@ fn write_upper(text: &mut Vec<u8>, scene: Scene<'_>) -> Result<(), AllocError>
 {
     write_pages_name(text, "virtual pages", 110)?;
     write_spans(text, scene)?;
-    write_all_mapped(text, scene)
+    write_all_mapped(text, scene)?;
+    write_all_unmapped(text, scene)
 }
 
 /// Appends the physical pages, what is below them, and the arrows to them.
@@ -97,6 +99,18 @@ fn write_all_mapped(text: &mut Vec<u8>, scene: Scene<'_>) -> Result<(), AllocErr
 {
     for lead in scene.now.leads.as_slice() {
         write_mapped(text, scene, lead)?;
+    }
+    Ok(())
+}
+
+/// Appends the places of the virtual pages that aren't mapped.
+fn write_all_unmapped(text: &mut Vec<u8>, scene: Scene<'_>) -> Result<(), AllocError>
+    ensures { OnOk result
+        (text.new.items ≡ text.old.items
+        ++ all_unmapped_text scene.entry.layout.now scene.entry.now.now scene.entry.before.now) }
+{
+    for span in scene.layout.spans.as_slice() {
+        write_unmapped_of(text, scene, span)?;
     }
     Ok(())
 }
@@ -266,6 +280,61 @@ fn write_virtual(
     )?;
     write_mark(text, marks_virtual(scene.now, page), scene.layout.page)?;
     end_group(text)
+}
+
+/// Appends the places of a span's pages that aren't mapped, if the frame has the span.
+#[tactic(auto, unfolding(crate::specs::Pages::unmapped_of_text))]
+fn write_unmapped_of(text: &mut Vec<u8>, scene: Scene<'_>, span: &Span) -> Result<(), AllocError>
+    ensures { OnOk result
+        (text.new.items ≡ text.old.items ++ unmapped_of_text scene.entry.layout.now scene.entry.now.now scene.entry.before.now span.now) }
+{
+    match member_at(scene.now, span.first) {
+        None => Ok(()),
+        Some(_) => write_unmapped_pages(text, scene, span),
+    }
+}
+
+/// Appends the places of a span's pages that aren't mapped.
+fn write_unmapped_pages(text: &mut Vec<u8>, scene: Scene<'_>, span: &Span) -> Result<(), AllocError>
+    ensures { OnOk result
+        (text.new.items ≡ text.old.items
+        ++ below (pages_of span.now.class) (unmapped_text scene.entry.layout.now scene.entry.now.now scene.entry.before.now span.now)) }
+{
+    for place in 0..span.class.pages() {
+        write_unmapped(text, scene, span, place)?;
+    }
+    Ok(())
+}
+
+/// Appends the place of the page at the index `place` of a span, if the page isn't mapped.
+#[tactic(auto, unfolding(crate::specs::Pages::unmapped_text))]
+fn write_unmapped(
+    text: &mut Vec<u8>,
+    scene: Scene<'_>,
+    span: &Span,
+    place: u32,
+) -> Result<(), AllocError>
+    ensures { OnOk result
+        (text.new.items ≡ text.old.items ++ unmapped_text scene.entry.layout.now scene.entry.now.now scene.entry.before.now span.now place) }
+{
+    let page = plus(span.first, place);
+    if is_mapped(scene.now, page) {
+        return Ok(());
+    }
+    let width = scene.layout.page;
+    write_group(text, scene.layout.page_left(span, place), VIRTUAL)?;
+    write_rect(text, &Look::of("no"), &page_area(width), 30)?;
+    write_labels(text, page, "not mapped", width)?;
+    write_change(text, is_mapped(scene.before, page), width)?;
+    write_mark(text, marks_virtual(scene.now, page), width)?;
+    end_group(text)
+}
+
+/// Whether a virtual page is mapped.
+fn is_mapped(frame: &Frame, page: u32) -> bool
+    ensures { result ≡ is_mapped frame.now page }
+{
+    lead_of(frame, page).is_some()
 }
 
 /// Returns the words for the protection of a virtual page, or none if the page has none.

@@ -30,8 +30,8 @@ pub struct Header {
     pub version: u32,
     /// The number of physical pages in the job's arena.
     pub pages: u32,
-    /// The number of workers in the job.
-    pub workers: u32,
+    /// The number of workers in the job. If it is `None`, a client gives the commands.
+    pub workers: Option<u32>,
 }
 
 /// A picture that is being drawn.

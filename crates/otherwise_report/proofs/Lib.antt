@@ -8,7 +8,7 @@ pub mod Drops
 pub mod NearestStates
 pub mod NearestStuck
 pub mod PlayedLines
-pub mod Points
+pub mod PlanPoints
 pub mod ReportMeanings
 pub mod Sections
 pub mod ToldRuns

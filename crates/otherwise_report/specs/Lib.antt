@@ -7,6 +7,7 @@ pub mod FaultTexts
 pub mod Findings
 pub mod Nearest
 pub mod Pictures
+pub mod Points
 pub mod PlanStarts
 pub mod PlanTexts
 pub mod ReportLaws
@@ -14,3 +15,4 @@ pub mod Reports
 pub mod Runs
 pub mod StepWords
 pub mod StepLists
+pub mod Timings

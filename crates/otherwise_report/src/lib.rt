@@ -14,11 +14,13 @@ mod list_fault;
 mod nearest;
 mod picture;
 mod plan_text;
+mod points;
 mod report;
 mod run;
 mod start;
 mod step_list;
 mod step_words;
+mod timing;
 mod whole;
 
 pub use errors::StepsError;

@@ -1,16 +1,16 @@
 //! The picture of a shortest plan to the first thing that is wrong.
-ghost use Rattle.std.specs.Prelude.{◌≡◌, ◌+◌, ◌≤◌, ◌<◌, IfOk, OnOk, codes, length, option_map};
+ghost use Rattle.std.specs.Prelude.{◌≡◌, ◌+◌, ◌≤◌, ℕ, IfOk, OnOk, codes, length, option_map};
 ghost use Rattle.draw_svg.specs.Begins.{Begins};
 ghost use Rattle.explore_otherwise.specs.Settings.{setting_of};
-ghost use Rattle.otherwise_report.specs.Pictures.{AreDrawn, IsFindingPoint, IsMovePoint, IsPicture, IsPointOf, IsPointWith, last_of, place_behind};
+ghost use Rattle.otherwise_report.specs.Pictures.{AreDrawn, IsPicture};
+ghost use Rattle.otherwise_report.specs.Points.{IsPlan, IsPointOf};
 
-use crate::captions::{add_move_answer, add_move_words};
-use crate::finding::{Finding, add_finding_answer, add_finding_words, first_finding, mark_of};
+use crate::finding::first_finding;
+use crate::points::{FoundPlan, point_at};
 use draw_picture::{Drawn, Frame, Header, Line, Measure, Picture, Text};
-use explore_otherwise::{Asking, Explorer, Setting, StateAt};
+use explore_otherwise::{Asking, Explorer, Setting};
 use model_words::Version;
-use otherwise_frames::frame_of;
-use states_reach::{Origin, Reached, path_to};
+use states_reach::{Reached, path_to};
 use std::alloc::{AllocError, Global};
 
 /// The greatest number of moves of a plan that is drawn.
@@ -25,12 +25,42 @@ pub struct PictureOptions<'a> {
     pub columns: u32,
 }
 
-/// A point of a plan: the last move and its answer, and what the heap looks like after it.
-#[derive(Drop)]
-struct PlanPoint {
-    words: Vec<u8>,
-    answer: Vec<u8>,
-    frame: Frame,
+/// A point of a plan, as a painter takes it.
+#[derive(Clone, Copy)]
+struct Point<'a> {
+    plan: &'a FoundPlan<'a>,
+    line: &'a Line<'a>,
+    frame: &'a Frame,
+}
+
+/// A consumer of the points of a plan.
+trait Painter {
+    /// The number of the point that the painter takes next.
+    ghost next: { Self → ℕ };
+
+    /// Takes the next point, and adds the point's drawing to `text`.
+    fn take(&mut self, point: &Point<'_>, text: &mut Text) -> Result<(), AllocError>
+        requires next { point.now.line.now.number ≡ next self.old }
+        requires shown { IsPointOf point.now.plan.now point.now.line.now.number
+            point.now.line.now.words.now point.now.line.now.answer.now point.now.frame.now }
+        ensures { OnOk result (next self.new ≡ next self.old + 1) };
+}
+
+impl Painter for Measure {
+    ghost next = { λ measure. measure };
+
+    fn take(&mut self, point: &Point<'_>, _text: &mut Text) -> Result<(), AllocError> {
+        self.point(point.line, point.frame)
+    }
+}
+
+impl Painter for Picture {
+    ghost next = { λ picture. picture.next };
+
+    fn take(&mut self, point: &Point<'_>, text: &mut Text) -> Result<(), AllocError> {
+        self.point(point.line, point.frame, text)?;
+        Ok(())
+    }
 }
 
 /// Returns the picture of a shortest plan to the first thing that is wrong, or `None` if nothing is. Also returns an
@@ -51,7 +81,13 @@ pub(crate) fn picture_of(
     if moves.len() > MOST_MOVES {
         return Err(AllocError);
     }
-    let picture = drawn(alloc, options, setting, reached, &finding, moves.as_slice())?;
+    let plan = FoundPlan {
+        setting,
+        reached,
+        finding: &finding,
+        moves: moves.as_slice(),
+    };
+    let picture = drawn(alloc, options, &plan)?;
     Ok(Some(picture))
 }
 
@@ -59,41 +95,59 @@ pub(crate) fn picture_of(
 fn drawn(
     alloc: Global,
     options: &PictureOptions<'_>,
-    setting: &Setting<'_>,
-    reached: &Reached<Explorer<'_>>,
-    finding: &Finding,
-    moves: &[Origin],
+    plan: &FoundPlan<'_>,
 ) -> Result<Vec<u8>, AllocError>
-    requires setting { reached.now.system.setting ≡ setting_of setting.now }
-    requires few { length moves.now ≤ 1000000 }
+    requires { IsPlan plan.now }
     ensures { IfOk result (λ picture. Begins (codes "<svg") picture.items) }
 {
-    let measure = measured(alloc, setting, reached, finding, moves)?;
+    let mut measure = Measure::new(alloc, 0);
+    let mut nothing = Text::new(alloc);
+    show_points(alloc, plan, &mut measure, &mut nothing)?;
     let measured = measure.next_line();
-    let mut picture = Picture::new(alloc, measure, header_of(setting), drawn_by(options))?;
+    let mut picture = Picture::new(alloc, measure, header_of(plan.setting), drawn_by(options))?;
     let mut text = Text::new(alloc);
     picture.head(&mut text);
     let mut all = text.whole()?.to_vec(alloc)?;
     text.clear();
-    draw_points(
-        alloc,
-        &mut picture,
-        &mut text,
-        setting,
-        reached,
-        finding,
-        moves,
-    )?;
-    all_drawn(moves, measured, picture.next_line());
+    show_points(alloc, plan, &mut picture, &mut text)?;
+    all_drawn(plan, measured, picture.next_line());
     picture.end(&mut text)?;
     all.extend_from_slice(text.whole()?)?;
     Ok(all)
 }
 
 /// States by its requirement that each point of the plan was measured and drawn. The function does nothing.
-fn all_drawn(moves: &[Origin], measured: usize, drawn: usize)
-    requires { AreDrawn moves.now measured drawn }
+fn all_drawn(plan: &FoundPlan<'_>, measured: usize, drawn: usize)
+    requires { AreDrawn plan.now measured drawn }
 {}
+
+/// Passes the points of a plan to a painter, one after the other.
+fn show_points<P: Painter>(
+    alloc: Global,
+    plan: &FoundPlan<'_>,
+    painter: &mut P,
+    text: &mut Text,
+) -> Result<(), AllocError>
+    requires plan { IsPlan plan.now }
+    requires first { P.next painter.old ≡ 0 }
+    ensures { OnOk result (P.next painter.new ≡ length plan.now.moves.now + 2) }
+{
+    for number in 0..plan.moves.len() + 2 {
+        let point = point_at(alloc, plan, number)?;
+        let line = Line {
+            number: number as u32,
+            words: point.words.as_slice(),
+            answer: point.answer.as_slice(),
+        };
+        let shown = Point {
+            plan: &*plan,
+            line: &line,
+            frame: &point.frame,
+        };
+        painter.take(&shown, text)?;
+    }
+    Ok(())
+}
 
 /// Returns what is drawn, as `draw_picture` takes it.
 fn drawn_by<'a>(options: &PictureOptions<'a>) -> Drawn<'a>
@@ -118,177 +172,8 @@ fn header_of(setting: &Setting<'_>) -> Header {
         },
         pages: u32::from(setting.pages),
         workers: match setting.asking {
-            Asking::Scripts(scripts) => scripts.count() as u32,
-            Asking::Client(_) => 1,
+            Asking::Scripts(scripts) => Some(scripts.count() as u32),
+            Asking::Client(_) => None,
         },
     }
-}
-
-/// Measures the points of a plan.
-fn measured(
-    alloc: Global,
-    setting: &Setting<'_>,
-    reached: &Reached<Explorer<'_>>,
-    finding: &Finding,
-    moves: &[Origin],
-) -> Result<Measure, AllocError>
-    requires setting { reached.now.system.setting ≡ setting_of setting.now }
-    requires few { length moves.now ≤ 1000000 }
-    ensures { IfOk result (λ measure. measure ≡ length moves.now + 2) }
-{
-    let mut measure = Measure::new(alloc, 0);
-    for number in 0..moves.len() + 2 {
-        let point = point_at(alloc, setting, reached, finding, moves, number)?;
-        measure.point(&line_of(&point, number), &point.frame)?;
-    }
-    Ok(measure)
-}
-
-/// Draws the points of a plan.
-fn draw_points(
-    alloc: Global,
-    picture: &mut Picture,
-    text: &mut Text,
-    setting: &Setting<'_>,
-    reached: &Reached<Explorer<'_>>,
-    finding: &Finding,
-    moves: &[Origin],
-) -> Result<(), AllocError>
-    requires setting { reached.now.system.setting ≡ setting_of setting.now }
-    requires few { length moves.now ≤ 1000000 }
-    requires first { picture.old.next ≡ 0 }
-    ensures { OnOk result (picture.new.next ≡ length moves.now + 2) }
-{
-    for number in 0..moves.len() + 2 {
-        let point = point_at(alloc, setting, reached, finding, moves, number)?;
-        let _ = picture.point(&line_of(&point, number), &point.frame, text)?;
-    }
-    Ok(())
-}
-
-/// Returns the line of a point.
-fn line_of<'a>(point: &'a PlanPoint, number: usize) -> Line<'a>
-    requires { number ≤ 1000001 }
-    ensures { result.number ≡ number }
-{
-    Line {
-        number: number as u32,
-        words: point.words.as_slice(),
-        answer: point.answer.as_slice(),
-    }
-}
-
-/// Returns a point of a plan: that before its first move, that after a move, or, behind all moves, what is wrong.
-fn point_at(
-    alloc: Global,
-    setting: &Setting<'_>,
-    reached: &Reached<Explorer<'_>>,
-    finding: &Finding,
-    moves: &[Origin],
-    number: usize,
-) -> Result<PlanPoint, AllocError>
-    requires setting { reached.now.system.setting ≡ setting_of setting.now }
-    ensures { IfOk result (λ point. IsPointOf (setting_of setting.now) reached.now.system.states finding.now moves.now
-        number point.words.items point.answer.items point.frame) }
-{
-    let place = place_behind(moves, number, finding.place());
-    let Some(at) = reached.system.at(place) else {
-        return Err(AllocError);
-    };
-    let frame = frame_of(alloc, &at)?;
-    if moves.len() < number {
-        return point_of(alloc, setting, &at, finding, frame);
-    }
-    match last_of(moves, number) {
-        Some(origin) => point_behind(alloc, setting, reached, origin, frame),
-        None => first_point(alloc, frame),
-    }
-}
-
-/// Returns the last of the first moves of a plan, as many as `number`, if there is one.
-fn last_of(moves: &[Origin], number: usize) -> Option<Origin>
-    ensures { result ≡ last_of moves.now number }
-{
-    match number.checked_sub(1) {
-        Some(before) => moves.get(before).copied(),
-        None => None,
-    }
-}
-
-/// Returns the place of the state after the first moves of a plan, as many as `number`. `last` is that of the state
-/// after all moves.
-fn place_behind(moves: &[Origin], number: usize, last: usize) -> usize
-    ensures { result ≡ place_behind moves.now number last }
-{
-    match moves.get(number) {
-        Some(origin) => origin.state as usize,
-        None => last,
-    }
-}
-
-/// Returns the point before the first move.
-fn first_point(alloc: Global, frame: Frame) -> Result<PlanPoint, AllocError>
-    ensures { IfOk result (λ point. IsPointWith (codes "start") (codes "done") frame
-        point.words.items point.answer.items point.frame) }
-{
-    let mut words = Vec::new(alloc);
-    words.extend_from_slice(b"start")?;
-    let mut answer = Vec::new(alloc);
-    answer.extend_from_slice(b"done")?;
-    Ok(PlanPoint {
-        words,
-        answer,
-        frame,
-    })
-}
-
-/// Returns the point after a move.
-fn point_behind(
-    alloc: Global,
-    setting: &Setting<'_>,
-    reached: &Reached<Explorer<'_>>,
-    origin: Origin,
-    frame: Frame,
-) -> Result<PlanPoint, AllocError>
-    requires setting { reached.now.system.setting ≡ setting_of setting.now }
-    ensures { IfOk result (λ point. IsMovePoint (setting_of setting.now) reached.now.system.states origin frame
-        point.words.items point.answer.items point.frame) }
-{
-    let Some(at) = reached.system.at(origin.state as usize) else {
-        return Err(AllocError);
-    };
-    let mut words = Vec::new(alloc);
-    add_move_words(&mut words, setting, &at, origin.number as usize)?;
-    let mut answer = Vec::new(alloc);
-    add_move_answer(alloc, &mut answer, setting, &at, origin.number as usize)?;
-    Ok(PlanPoint {
-        words,
-        answer,
-        frame,
-    })
-}
-
-/// Returns the point of what is wrong. Its page is marked.
-fn point_of(
-    alloc: Global,
-    setting: &Setting<'_>,
-    at: &StateAt<'_>,
-    finding: &Finding,
-    frame: Frame,
-) -> Result<PlanPoint, AllocError>
-    requires setting { at.now.setting ≡ setting_of setting.now }
-    ensures { IfOk result (λ point. IsFindingPoint (setting_of setting.now) at.now.state finding.now frame
-        point.words.items point.answer.items point.frame) }
-{
-    let mut words = Vec::new(alloc);
-    add_finding_words(&mut words, setting, at, finding)?;
-    let mut answer = Vec::new(alloc);
-    add_finding_answer(&mut answer, finding)?;
-    let mut frame = frame;
-    frame.mark = mark_of(at, finding)?;
-    Ok(PlanPoint {
-        words,
-        answer,
-        frame,
-    })
 }

@@ -52,6 +52,11 @@ def cases(suite):
     report_kinds(suite, "commands in two moves", timed)
     between = [report for report in timed if b"-> begins" in report.output]
     suite.report("steps: a plan has a command between its moves", [] if between else ["none has"])
+    never = []
+    for words in (["--any", 1], ["--any", 0, "--store", "split"]):
+        never.append(compare(suite, engine, JOBS / "setting_one.job", "--mesh", "1:0", "--steps", FENCED[1], *words))
+    told = [b"no interleaving has" in report.output for report in never]
+    suite.report("steps: a report says what never happens", [] if all(told) else [str(told)])
     for steps in LENGTHS:
         compare(suite, engine, JOBS / "setting_one.job", "--mesh", "1:0", "--steps", steps, "--any", 1)
     faults = [f"status {report.status}" for report in reports if report.status not in (0, 3)]

@@ -53,7 +53,7 @@ def compare(suite, engine, job, *words):
     if run.status == 0:
         faults += differences(captions_of(run.output), wanted)
         marks = marks_of(run.output)
-        faults += mark_faults(marks, *wanted[-1])
+        faults += mark_faults(marks, wanted[-1][0])
     suite.report(name, faults)
     return {kind for kind, _ in marks}
 
@@ -139,12 +139,9 @@ def marks_of(picture):
     return marks
 
 
-def mark_faults(marks, wrong, how):
-    """What is wrong with the marks of a picture. `wrong` says what is wrong, and `how` is its answer. One page is marked,
-    unless it isn't drawn: a virtual page that isn't mapped.
-    """
-    is_drawn = "on no page" not in wrong and "no page" not in how
-    if any(kind == "early" for kind, _ in marks) or len(marks) != is_drawn:
+def mark_faults(marks, wrong):
+    """What is wrong with the marks of a picture. `wrong` says what is wrong. One page is marked, in the last card."""
+    if len(marks) != 1 or marks[0][0] == "early":
         return [f"marks {marks}"]
     page = re.fullmatch(r"(?:page left protected: (virtual)|lost page: (physical)) page (\d+)", wrong)
     if page and marks != [(page[1] or page[2], int(page[3]))]:
